@@ -1,0 +1,109 @@
+-- Folds over lists: the sum of numbers, and a test that every element meets. A loop speaks of what is left, `drop i xs`: a turn takes one
+-- element off, and the early exit, the next turn and the end are a law each. Assumes nothing.
+use Prim.Native.Nat.{ℕ, zero, suc, _+_, _*_, _-_, _≤_, _<_}
+use mathlib.Core.Bool.{Bool, true, false}
+use mathlib.Core.Path.{_≡_, refl, sym, _∙_, ap}
+use mathlib.Core.List.{List, [], _∷_, _++_}
+use native.Mathlib.Nat.{add-zero, zero-add, add-assoc, mul-suc}
+use native.Mathlib.Omega.{arith}
+use lib.ListN.{length, take, drop, getD, replicate, length-drop, drop-of-length-le, take-append-drop}
+use Rattle.laws.specs.Choice.{also, also-left, also-right, also-both, false-true}
+use Rattle.laws.specs.Part.{drop-step, take-step, drop-end}
+
+-- the sum of the numbers
+unfoldable pub sum : List ℕ → ℕ
+sum [] = 0
+sum (x ∷ xs) = x + sum xs
+
+-- every element meets the test
+unfoldable pub every {ℓ} : {A : Type ℓ} → (A → Bool) → List A → Bool
+every p [] = true
+every p (x ∷ xs) = also (p x) (every p xs)
+
+pub sum-append : (xs ys : List ℕ) → sum (xs ++ ys) ≡ sum xs + sum ys
+unfolding sum
+sum-append [] ys = sym (zero-add (sum ys))
+sum-append (x ∷ xs) ys = rw (sum-append xs ys) (sym (add-assoc x (sum xs) (sum ys)))
+
+pub sum-split : (n : ℕ) (xs : List ℕ) → sum (take n xs) + sum (drop n xs) ≡ sum xs
+sum-split n xs = sym (sum-append (take n xs) (drop n xs)) ∙ ap sum (take-append-drop n xs)
+
+-- a turn of the loop, and its end
+pub sum-step : (xs : List ℕ) (i : ℕ) → i < length xs → sum (drop i xs) ≡ getD xs i 0 + sum (drop (i + 1) xs)
+unfolding sum
+sum-step xs i h = rw (drop-step xs i 0 h)
+
+pub sum-end : (xs : List ℕ) (i : ℕ) → length xs ≤ i → sum (drop i xs) ≡ 0
+unfolding sum
+sum-end xs i h = rw (drop-end xs i h)
+
+-- one number more in front
+pub sum-take-step : (xs : List ℕ) (i : ℕ) → i < length xs → sum (take (i + 1) xs) ≡ sum (take i xs) + getD xs i 0
+unfolding sum
+sum-take-step xs i h = rw (take-step xs i 0 h) (sum-append (take i xs) (getD xs i 0 ∷ []) ∙ ap (λ (n : ℕ). sum (take i xs) + n) (add-zero (getD xs i 0)))
+
+module _ {ℓ} {A : Type ℓ} (p : A → Bool) where
+  pub every-append : (xs ys : List A) → every p (xs ++ ys) ≡ also (every p xs) (every p ys)
+  unfolding every also
+  every-append [] ys = refl
+  every-append (x ∷ xs) ys = rw (every-append xs ys) (go (p x) (every p xs) (every p ys))
+    where
+      go : (a b c : Bool) → also a (also b c) ≡ also (also a b) c
+      go true b c = refl
+      go false b c = refl
+
+  -- a turn: where this element fails, where it holds, and the end
+  module _ (xs : List A) (i : ℕ) (d : A) (h : i < length xs) where
+    pub every-step : every p (drop i xs) ≡ also (p (getD xs i d)) (every p (drop (i + 1) xs))
+    unfolding every
+    every-step = rw (drop-step xs i d h)
+
+    pub every-no : every p (drop i xs) ≡ every p xs → p (getD xs i d) ≡ false → false ≡ every p xs
+    unfolding also
+    every-no e q = (λ j. also (sym q j) (every p (drop (i + 1) xs))) ∙ sym every-step ∙ e
+
+    pub every-yes : every p (drop i xs) ≡ every p xs → p (getD xs i d) ≡ true → every p (drop (i + 1) xs) ≡ every p xs
+    unfolding also
+    every-yes e q = (λ j. also (sym q j) (every p (drop (i + 1) xs))) ∙ sym every-step ∙ e
+
+  pub every-done : (xs : List A) (i : ℕ) → length xs ≤ i → every p (drop i xs) ≡ every p xs → true ≡ every p xs
+  unfolding every
+  every-done xs i h e = ap (every p) (sym (drop-end xs i h)) ∙ e
+
+  -- the element at a place meets the test, and where each does all do
+  pub every-at : (xs : List A) (i : ℕ) (d : A) → every p xs ≡ true → i < length xs → p (getD xs i d) ≡ true
+  unfolding every
+  every-at [] i d e h = absurd (omega arith)
+  every-at (x ∷ xs) zero d e h = also-left (p x) (every p xs) e
+  every-at (x ∷ xs) (suc i) d e h = every-at xs i d (also-right (p x) (every p xs) e) (omega arith)
+
+  pub every-all : (xs : List A) (d : A) → ((i : ℕ) → i < length xs → p (getD xs i d) ≡ true) → every p xs ≡ true
+  unfolding every
+  every-all [] d f = refl
+  every-all (x ∷ xs) d f = also-both (p x) (every p xs) (f 0 (omega arith)) (every-all xs d (λ i h. f (suc i) (omega arith)))
+
+  pub every-take : (n : ℕ) (xs : List A) → every p xs ≡ true → every p (take n xs) ≡ true
+  unfolding every
+  every-take zero xs e = refl
+  every-take (suc n) [] e = refl
+  every-take (suc n) (x ∷ xs) e = also-both (p x) (every p (take n xs)) (also-left (p x) (every p xs) e) (every-take n xs (also-right (p x) (every p xs) e))
+
+  pub every-drop : (n : ℕ) (xs : List A) → every p xs ≡ true → every p (drop n xs) ≡ true
+  unfolding every
+  every-drop zero xs e = e
+  every-drop (suc n) [] e = refl
+  every-drop (suc n) (x ∷ xs) e = every-drop n xs (also-right (p x) (every p xs) e)
+
+  pub every-replicate : (n : ℕ) (x : A) → p x ≡ true → every p (replicate n x) ≡ true
+  unfolding every
+  every-replicate zero x e = refl
+  every-replicate (suc n) x e = also-both (p x) (every p (replicate n x)) e (every-replicate n x e)
+
+-- a bound on each number bounds the sum
+pub sum-bound : (k : ℕ) (xs : List ℕ) → ((i : ℕ) → i < length xs → getD xs i 0 ≤ k) → sum xs ≤ k * length xs
+unfolding sum
+sum-bound k [] f = omega arith
+sum-bound k (x ∷ xs) f =
+    let h : sum xs ≤ k * length xs = sum-bound k xs (λ i l. f (suc i) (omega arith)) in
+    let z : x ≤ k = f 0 (omega arith) in
+    rw (mul-suc k (length xs)) (omega arith)

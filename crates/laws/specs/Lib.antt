@@ -1,0 +1,6 @@
+pub mod Choice
+pub mod Part
+pub mod Splice
+pub mod Fold
+pub mod Cut
+pub mod Ring

@@ -1,0 +1,68 @@
+-- Parts of lists. The code's part `s[a..e]` is `take (e - a) (drop a s)`; these laws move a fact about a part to the form that a
+-- definition has, and take the next element off what is left. Over any element. Assumes nothing.
+use Prim.Native.Nat.{ℕ, zero, suc, _+_, _-_, _≤_, _<_, min}
+use mathlib.Core.Path.{_≡_, refl, sym, _∙_, ap}
+use mathlib.Core.List.{List, [], _∷_, _++_, append-assoc, append-nil}
+use native.Mathlib.Nat.{sub-zero, min-eq-left, min-eq-right, le-of-lt}
+use native.Mathlib.Numerals.{add-one}
+use native.Mathlib.Omega.{arith}
+use lib.ListN.{length, take, drop, getD, length-append, length-take, length-drop, take-append-drop, drop-of-length-le, replicate}
+use lib.Seq.{drop-cons, take-all, take-append-le, drop-append-le, take-append-add, drop-append-add, getD-append-add, take-suc, drop-drop, length-take-le, take-add, take-nil, take-take, drop-at}
+use Rattle.laws.specs.Choice.{split-le}
+
+module _ {ℓ κ} {A : Type ℓ} {B : Type κ} where
+  -- a fact about the front `s[0..n]`, in the code's form and in the definition's
+  pub front : (f : List A → B) (n : ℕ) (xs : List A) {b : B} → f (take (n - 0) xs) ≡ b → f (take n xs) ≡ b
+  front f n xs e = rw (sub-zero n) at e
+
+  -- a fact about a part whose length is written in two ways
+  pub part-is : (f : List A → B) (xs : List A) (a k m : ℕ) {b : B} → k ≡ m → f (take k (drop a xs)) ≡ b → f (take m (drop a xs)) ≡ b
+  part-is f xs a k m h e = rw h at e
+
+module _ {ℓ} {A : Type ℓ} where
+  -- what is left begins with the next element
+  pub drop-step : (xs : List A) (i : ℕ) (d : A) → i < length xs → drop i xs ≡ getD xs i d ∷ drop (i + 1) xs
+  drop-step xs i d h = rw add-one (drop-cons xs i d h)
+
+  -- one element more of the front
+  pub take-step : (xs : List A) (i : ℕ) (d : A) → i < length xs → take (i + 1) xs ≡ take i xs ++ (getD xs i d ∷ [])
+  take-step xs i d h = rw add-one (take-suc xs i d h)
+
+  -- nothing is left
+  pub drop-end : (xs : List A) (i : ℕ) → length xs ≤ i → drop i xs ≡ []
+  drop-end xs i h = drop-of-length-le xs h
+
+  -- the rest of a list is its part from n to its end
+  pub tail-is : (xs : List A) (n : ℕ) → take (length xs - n) (drop n xs) ≡ drop n xs
+  tail-is xs n = take-all (length xs - n) (drop n xs) (simp length-drop (omega arith))
+
+  -- the length of a part that lies within the list
+  pub length-part : (xs : List A) (a k : ℕ) → a + k ≤ length xs → length (take k (drop a xs)) ≡ k
+  length-part xs a k h = length-take-le k (drop a xs) (simp length-drop (omega arith))
+
+  -- a count that is cut at the length takes the same
+  pub take-min : (xs : List A) (n r : ℕ) → length xs ≡ r → take (min n r) xs ≡ take n xs
+  take-min xs n r e =
+      split-le n r
+      (λ h. rw (min-eq-left h))
+      (λ h. rw (min-eq-right (le-of-lt h)) (take-all r xs (omega arith) ∙ sym (take-all n xs (omega arith))))
+
+  -- dropping from what was taken is taking from what was dropped
+  pub drop-take : (a k : ℕ) (xs : List A) → drop a (take (a + k) xs) ≡ take k (drop a xs)
+  drop-take a k xs =
+      rw (take-add a k xs)
+      (split-le a (length xs)
+      (λ h. drop-at (take a xs) (take k (drop a xs)) a (length-take-le a xs h))
+      (λ h.
+      rw (drop-of-length-le xs {i = a} (omega arith), take-all a xs (omega arith), take-nil {A = A} k, append-nil xs)
+      (drop-of-length-le xs {i = a} (omega arith))))
+
+  -- a part of the front is a part of the whole
+  pub part-of-front : (xs : List A) (n a k : ℕ) → a + k ≤ n → take k (drop a (take n xs)) ≡ take k (drop a xs)
+  part-of-front xs n a k h =
+      let e : a + (n - a) ≡ n = omega arith in
+      rw (← e) (rw (drop-take a (n - a) xs) (take-take k (n - a) (drop a xs) (omega arith)))
+
+  -- a list is its front, a part and the rest
+  pub three-parts : (xs : List A) (a k : ℕ) → take a xs ++ take k (drop a xs) ++ drop (a + k) xs ≡ xs
+  three-parts xs a k = rw (← (take-add a k xs)) (take-append-drop (a + k) xs)

@@ -1,0 +1,295 @@
+-- A list as a ring of S elements, S its length. A position is below S; an offset from a position is counted going round. Every law holds
+-- for every S: facts go by index, and each conditional has its two cases. Assumes nothing.
+use Prim.Native.Nat.{ℕ, zero, suc, _+_, _-_, _≤_, _<_, min}
+use mathlib.Core.Bool.{Bool, true, false, cond}
+use mathlib.Core.Path.{_≡_, refl, sym, _∙_, ap, subst}
+use mathlib.Core.List.{List, [], _∷_, _++_, append-assoc}
+use native.Mathlib.Nat.{add-zero, zero-add, add-assoc}
+use native.Mathlib.Omega.{arith}
+use lib.Dec.{leb, ltb, eqb}
+use borrow.Author.Tests.{lt-ltb, le-ltb, le-leb, lt-leb, ltb-true, ltb-false}
+use lib.ListN.{length, take, drop, getD, length-append, length-take, length-drop, List·getD-append}
+use lib.Seq.{length-take-le, take-all, take-take, take-append-le, take-append-add, drop-at, getD-take, getD-drop, getD-append-add, ext-getD}
+use Rattle.laws.specs.Choice.{by-leb, by-ltb, split-le}
+use Rattle.laws.specs.Splice.{splice, length-splice, getD-splice-before, getD-splice-here, getD-splice-after, splice-none}
+
+-- the position of x on a ring of S places, for x below 2 S
+unfoldable pub wrap : ℕ → ℕ → ℕ
+wrap S x = cond (leb S x) (x - S) x
+
+-- how far i lies after p, going round
+unfoldable pub off : ℕ → ℕ → ℕ → ℕ
+off S p i = cond (leb p i) (i - p) (i + S - p)
+
+pub by-wrap {κ} : (P : ℕ → Type κ) (S x : ℕ) → (S ≤ x → P (x - S)) → (x < S → P x) → P (wrap S x)
+unfolding wrap
+by-wrap P S x f g = by-leb P S x (x - S) x f g
+
+pub by-off {κ} : (P : ℕ → Type κ) (S p i : ℕ) → (p ≤ i → P (i - p)) → (i < p → P (i + S - p)) → P (off S p i)
+unfolding off
+by-off P S p i f g = by-leb P p i (i - p) (i + S - p) f g
+
+-- below the end nothing wraps; at the end and past it S goes off
+pub wrap-below : (S x : ℕ) → x < S → wrap S x ≡ x
+unfolding wrap
+wrap-below S x h = simp (lt-leb S x h)
+
+pub wrap-past : (S x : ℕ) → S ≤ x → wrap S x ≡ x - S
+unfolding wrap
+wrap-past S x h = simp (le-leb S x h)
+
+pub wrap-in : (S x : ℕ) → x < S + S → wrap S x < S
+wrap-in S x h = by-wrap (λ (w : ℕ). w < S) S x (λ l. omega arith) (λ l. l)
+
+pub off-in : (S p i : ℕ) → p < S → i < S → off S p i < S
+off-in S p i h k = by-off (λ (o : ℕ). o < S) S p i (λ l. omega arith) (λ l. omega arith)
+
+-- moving on by a and then by b is moving on by both
+pub wrap-add : (S s a b : ℕ) → s < S → a + b ≤ S → wrap S (wrap S (s + a) + b) ≡ wrap S (s + (a + b))
+wrap-add S s a b h k =
+    by-wrap (λ (w : ℕ). wrap S (w + b) ≡ wrap S (s + (a + b))) S (s + a)
+    (λ l.
+    by-wrap (λ (w : ℕ). w ≡ wrap S (s + (a + b))) S (s + a - S + b)
+    (λ m. absurd-le l m)
+    (λ m. by-wrap (λ (w : ℕ). s + a - S + b ≡ w) S (s + (a + b)) (λ n. omega arith) (λ n. absurd (omega arith))))
+    (λ l. ap (wrap S) (add-assoc s a b))
+  where
+    absurd-le : S ≤ s + a → S ≤ s + a - S + b → s + a - S + b - S ≡ wrap S (s + (a + b))
+    absurd-le l m = by-wrap (λ (w : ℕ). s + a - S + b - S ≡ w) S (s + (a + b)) (λ n. omega arith) (λ n. omega arith)
+
+-- a place is its offset from p, and the place at offset t from p has offset t
+pub wrap-off : (S p i : ℕ) → p < S → i < S → wrap S (p + off S p i) ≡ i
+wrap-off S p i h k =
+    by-off (λ (o : ℕ). wrap S (p + o) ≡ i) S p i
+    (λ l. by-wrap (λ (w : ℕ). w ≡ i) S (p + (i - p)) (λ m. omega arith) (λ m. omega arith))
+    (λ l. by-wrap (λ (w : ℕ). w ≡ i) S (p + (i + S - p)) (λ m. omega arith) (λ m. omega arith))
+
+pub off-wrap : (S p t : ℕ) → p < S → t < S → off S p (wrap S (p + t)) ≡ t
+off-wrap S p t h k =
+    by-wrap (λ (w : ℕ). off S p w ≡ t) S (p + t)
+    (λ l. by-off (λ (o : ℕ). o ≡ t) S p (p + t - S) (λ m. omega arith) (λ m. omega arith))
+    (λ l. by-off (λ (o : ℕ). o ≡ t) S p (p + t) (λ m. omega arith) (λ m. omega arith))
+
+-- seen from the start s, a place at offset i lies after the place at offset a as i lies after a
+pub off-shift : (S s a i : ℕ) → s < S → a < S → i < S → off S (wrap S (s + a)) (wrap S (s + i)) ≡ off S a i
+off-shift S s a i h ha hi =
+    by-off (λ (o : ℕ). off S (wrap S (s + a)) (wrap S (s + i)) ≡ o) S a i
+    (λ l.
+    by-wrap (λ (w : ℕ). off S w (wrap S (s + i)) ≡ i - a) S (s + a)
+    (λ m.
+    by-wrap (λ (v : ℕ). off S (s + a - S) v ≡ i - a) S (s + i)
+    (λ n. by-off (λ (o : ℕ). o ≡ i - a) S (s + a - S) (s + i - S) (λ q. omega arith) (λ q. omega arith))
+    (λ n. by-off (λ (o : ℕ). o ≡ i - a) S (s + a - S) (s + i) (λ q. omega arith) (λ q. omega arith)))
+    (λ m.
+    by-wrap (λ (v : ℕ). off S (s + a) v ≡ i - a) S (s + i)
+    (λ n. by-off (λ (o : ℕ). o ≡ i - a) S (s + a) (s + i - S) (λ q. omega arith) (λ q. omega arith))
+    (λ n. by-off (λ (o : ℕ). o ≡ i - a) S (s + a) (s + i) (λ q. omega arith) (λ q. omega arith))))
+    (λ l.
+    by-wrap (λ (w : ℕ). off S w (wrap S (s + i)) ≡ i + S - a) S (s + a)
+    (λ m.
+    by-wrap (λ (v : ℕ). off S (s + a - S) v ≡ i + S - a) S (s + i)
+    (λ n. by-off (λ (o : ℕ). o ≡ i + S - a) S (s + a - S) (s + i - S) (λ q. omega arith) (λ q. omega arith))
+    (λ n. by-off (λ (o : ℕ). o ≡ i + S - a) S (s + a - S) (s + i) (λ q. omega arith) (λ q. omega arith)))
+    (λ m.
+    by-wrap (λ (v : ℕ). off S (s + a) v ≡ i + S - a) S (s + i)
+    (λ n. by-off (λ (o : ℕ). o ≡ i + S - a) S (s + a) (s + i - S) (λ q. omega arith) (λ q. omega arith))
+    (λ n. by-off (λ (o : ℕ). o ≡ i + S - a) S (s + a) (s + i) (λ q. omega arith) (λ q. omega arith))))
+
+-- the n elements from `at` on, going round
+unfoldable pub around {ℓ} : {A : Type ℓ} → List A → ℕ → ℕ → List A
+around s at n = take n (drop at s ++ take at s)
+
+-- d with the elements of s from `at` on, up to d's end, and the rest of s from d's front on
+unfoldable pub spliceAround {ℓ} : {A : Type ℓ} → List A → ℕ → List A → List A
+spliceAround d at s = splice (splice d at (take (length d - at) s)) 0 (drop (length d - at) s)
+
+module _ {ℓ} {A : Type ℓ} where
+  pub length-around : (s : List A) (at n : ℕ) → at ≤ length s → n ≤ length s → length (around s at n) ≡ n
+  unfolding around
+  length-around s at n h k = length-take-le n (drop at s ++ take at s) (simp (length-append, length-drop, length-take-le at s h) (omega arith))
+
+  -- element t
+  pub getD-around : (s : List A) (at n t : ℕ) (x : A) → at < length s → n ≤ length s → t < n → getD (around s at n) t x ≡ getD s (wrap (length s) (at + t)) x
+  unfolding around
+  getD-around s at n t x h k l =
+      getD-take n (drop at s ++ take at s) t x l
+      ∙ by-wrap (λ (w : ℕ). getD (drop at s ++ take at s) t x ≡ getD s w x) (length s) (at + t)
+      (λ m.
+      let e : length (drop at s) + (at + t - length s) ≡ t = simp length-drop (omega arith) in
+      ap (λ (j : ℕ). getD (drop at s ++ take at s) j x) (sym e)
+      ∙ getD-append-add (drop at s) (take at s) (at + t - length s) x
+      ∙ getD-take at s (at + t - length s) x (omega arith))
+      (λ m. List·getD-append (drop at s) (take at s) x t (simp length-drop (omega arith)) ∙ getD-drop at s t x)
+
+  pub length-spliceAround : (d : List A) (at : ℕ) (s : List A) → at ≤ length d → length s ≤ length d → length (spliceAround d at s) ≡ length d
+  unfolding spliceAround
+  length-spliceAround d at s h k =
+      length-splice (splice d at (take (length d - at) s)) 0 (drop (length d - at) s) (omega (arith, first, rest)) ∙ first
+    where
+      first : length (splice d at (take (length d - at) s)) ≡ length d
+      first = length-splice d at (take (length d - at) s) (simp length-take (omega arith))
+
+      rest : length (drop (length d - at) s) ≡ length s - (length d - at)
+      rest = length-drop (length d - at) s
+
+  -- element i: the write's, where i lies within it, else what was there
+  pub getD-spliceAround : (d : List A) (at : ℕ) (s : List A) (i : ℕ) (x : A) → at < length d → length s ≤ length d → i < length d
+      → getD (spliceAround d at s) i x ≡ cond (ltb (off (length d) at i) (length s)) (getD s (off (length d) at i) x) (getD d i x)
+  unfolding spliceAround
+  getD-spliceAround d at s i x h k l =
+      by-off (λ (o : ℕ). getD (spliceAround d at s) i x ≡ cond (ltb o (length s)) (getD s o x) (getD d i x)) (length d) at i
+      (λ m.
+      by-ltb (λ (y : A). getD (spliceAround d at s) i x ≡ y) (i - at) (length s) (getD s (i - at) x) (getD d i x)
+      (λ n.
+      let e : at + (i - at) ≡ i = omega arith in
+      getD-splice-after mid 0 rest i x (omega (arith, length-rest)) (omega arith)
+      ∙ ap (λ (j : ℕ). getD mid j x) (sym e)
+      ∙ getD-splice-here d at first (i - at) x (omega (arith, length-first)) (omega arith)
+      ∙ getD-take (length d - at) s (i - at) x (omega arith))
+      (λ n.
+      getD-splice-after mid 0 rest i x (omega (arith, length-rest)) (omega arith)
+      ∙ getD-splice-after d at first i x (omega (arith, length-first)) (omega arith)))
+      (λ m.
+      by-ltb (λ (y : A). getD (spliceAround d at s) i x ≡ y) (i + length d - at) (length s) (getD s (i + length d - at) x) (getD d i x)
+      (λ n.
+      let e : length d - at + i ≡ i + length d - at = omega arith in
+      ap (λ (j : ℕ). getD (splice mid 0 rest) j x) (sym (zero-add i))
+      ∙ getD-splice-here mid 0 rest i x (omega (arith, length-rest)) (omega arith)
+      ∙ getD-drop (length d - at) s i x
+      ∙ ap (λ (j : ℕ). getD s j x) e)
+      (λ n.
+      getD-splice-after mid 0 rest i x (omega (arith, length-rest)) (omega arith)
+      ∙ getD-splice-before d at first i x m (omega arith)))
+    where
+      first : List A
+      first = take (length d - at) s
+
+      rest : List A
+      rest = drop (length d - at) s
+
+      mid : List A
+      mid = splice d at first
+
+      length-first : length first ≡ min (length d - at) (length s)
+      length-first = length-take (length d - at) s
+
+      length-rest : length rest ≡ length s - (length d - at)
+      length-rest = length-drop (length d - at) s
+
+  -- the interval that a write covered shows the write
+  pub around-here : (d : List A) (at : ℕ) (s : List A) (x : A) → at < length d → length s ≤ length d → around (spliceAround d at s) at (length s) ≡ s
+  around-here d at s x h k =
+      ext-getD x (around w at (length s)) s
+      (length-around w at (length s) (omega (arith, long)) (omega (arith, long)))
+      (λ t l.
+      let lt : t < length s = omega (arith, l, length-around w at (length s) (omega (arith, long)) (omega (arith, long))) in
+      getD-around w at (length s) t x (omega (arith, long)) (omega (arith, long)) lt
+      ∙ ap (λ (n : ℕ). getD w (wrap n (at + t)) x) long
+      ∙ getD-spliceAround d at s (wrap (length d) (at + t)) x h k (wrap-in (length d) (at + t) (omega arith))
+      ∙ ap (λ (o : ℕ). cond (ltb o (length s)) (getD s o x) (getD d (wrap (length d) (at + t)) x)) (off-wrap (length d) at t h (omega arith))
+      ∙ simp (lt-ltb t (length s) lt))
+    where
+      w : List A
+      w = spliceAround d at s
+
+      long : length w ≡ length d
+      long = length-spliceAround d at s (omega (arith, h)) k
+
+  -- two rings that agree at each place of an interval show the same there
+  pub around-same : (d e : List A) (q m : ℕ) (x : A) → length e ≡ length d → q < length d → m ≤ length d
+      → ((t : ℕ) → t < m → getD e (wrap (length d) (q + t)) x ≡ getD d (wrap (length d) (q + t)) x) → around e q m ≡ around d q m
+  around-same d e q m x h k l f =
+      ext-getD x (around e q m) (around d q m) (le ∙ sym ld)
+      (λ t n.
+      let lt : t < m = omega (arith, n, le) in
+      getD-around e q m t x (omega (arith, h)) (omega (arith, h)) lt
+      ∙ ap (λ (z : ℕ). getD e (wrap z (q + t)) x) h
+      ∙ f t lt
+      ∙ sym (getD-around d q m t x k l lt))
+    where
+      le : length (around e q m) ≡ m
+      le = length-around e q m (omega (arith, h, k)) (omega (arith, h, l))
+
+      ld : length (around d q m) ≡ m
+      ld = length-around d q m (omega (arith, k)) l
+
+  -- a write that covers no place of an interval leaves what the interval shows
+  pub around-elsewhere : (d : List A) (p : ℕ) (s : List A) (q m : ℕ) (x : A) → p < length d → length s ≤ length d → q < length d → m ≤ length d
+      → ((t : ℕ) → t < m → length s ≤ off (length d) p (wrap (length d) (q + t))) → around (spliceAround d p s) q m ≡ around d q m
+  around-elsewhere d p s q m x hp hs hq hm f =
+      around-same d (spliceAround d p s) q m x (length-spliceAround d p s (omega arith) hs) hq hm
+      (λ t l.
+      getD-spliceAround d p s (wrap (length d) (q + t)) x hp hs (wrap-in (length d) (q + t) (omega arith))
+      ∙ simp (le-ltb (off (length d) p (wrap (length d) (q + t))) (length s) (f t l)))
+
+  -- an interval and the one after it
+  pub around-append : (s : List A) (at n m : ℕ) (x : A) → at < length s → n + m ≤ length s → around s at (n + m) ≡ around s at n ++ around s (wrap (length s) (at + n)) m
+  around-append s at n m x h k =
+      ext-getD x (around s at (n + m)) (around s at n ++ around s next m) (both ∙ sym joined)
+      (λ t l.
+      let lt : t < n + m = omega (arith, l, both) in
+      getD-around s at (n + m) t x h k lt ∙ go t lt)
+    where
+      next : ℕ
+      next = wrap (length s) (at + n)
+
+      next-in : next < length s
+      next-in = wrap-in (length s) (at + n) (omega (arith, h, k))
+
+      both : length (around s at (n + m)) ≡ n + m
+      both = length-around s at (n + m) (omega (arith, h)) k
+
+      first : length (around s at n) ≡ n
+      first = length-around s at n (omega (arith, h)) (omega (arith, k))
+
+      second : length (around s next m) ≡ m
+      second = length-around s next m (omega (arith, next-in)) (omega (arith, k))
+
+      joined : length (around s at n ++ around s next m) ≡ n + m
+      joined = length-append (around s at n) (around s next m) ∙ (λ i. first i + second i)
+
+      go : (t : ℕ) → t < n + m → getD s (wrap (length s) (at + t)) x ≡ getD (around s at n ++ around s next m) t x
+      go t lt =
+          split-le n t
+          (λ l.
+          let e : n + (t - n) ≡ t = omega arith in
+          sym
+          (ap (λ (j : ℕ). getD (around s at n ++ around s next m) j x) (sym e)
+          ∙ ap (λ (j : ℕ). getD (around s at n ++ around s next m) (j + (t - n)) x) (sym first)
+          ∙ getD-append-add (around s at n) (around s next m) (t - n) x
+          ∙ getD-around s next m (t - n) x next-in (omega (arith, k)) (omega arith)
+          ∙ ap (λ (j : ℕ). getD s j x) (wrap-add (length s) at n (t - n) h (omega (arith, k)))
+          ∙ ap (λ (j : ℕ). getD s (wrap (length s) (at + j)) x) e))
+          (λ l.
+          sym
+          (List·getD-append (around s at n) (around s next m) x t (omega (arith, first))
+          ∙ getD-around s at n t x h (omega (arith, k)) l))
+
+  -- an interval that does not pass the end, and one that does
+  pub around-straight : (s : List A) (at n : ℕ) → at + n ≤ length s → around s at n ≡ take n (drop at s)
+  unfolding around
+  around-straight s at n h = take-append-le n (drop at s) (take at s) (simp length-drop (omega arith))
+
+  pub around-past : (s : List A) (at n : ℕ) → at ≤ length s → length s ≤ at + n → n ≤ length s → around s at n ≡ drop at s ++ take (at + n - length s) s
+  unfolding around
+  around-past s at n h k l =
+      let e : length (drop at s) + (at + n - length s) ≡ n = simp length-drop (omega arith) in
+      ap (λ (j : ℕ). take j (drop at s ++ take at s)) (sym e)
+      ∙ take-append-add (drop at s) (take at s) (at + n - length s)
+      ∙ ap (λ (z : List A). drop at s ++ z) (take-take (at + n - length s) at s (omega arith))
+
+  pub around-none : (s : List A) (at : ℕ) → around s at 0 ≡ []
+  unfolding around
+  around-none s at = refl
+
+  -- the first part of an interval, and the interval whose start is moved on by k within it
+  pub around-take : (s : List A) (at n k : ℕ) → k ≤ n → take k (around s at n) ≡ around s at k
+  unfolding around
+  around-take s at n k h = take-take k n (drop at s ++ take at s) h
+
+  pub around-drop : (s : List A) (at n k : ℕ) (x : A) → at < length s → n ≤ length s → k ≤ n → drop k (around s at n) ≡ around s (wrap (length s) (at + k)) (n - k)
+  around-drop s at n k x h l m =
+      let e : k + (n - k) ≡ n = omega arith in
+      ap (λ (j : ℕ). drop k (around s at j)) (sym e)
+      ∙ ap (drop k) (around-append s at k (n - k) x h (omega arith))
+      ∙ drop-at (around s at k) (around s (wrap (length s) (at + k)) (n - k)) k (length-around s at k (omega arith) (omega arith))
