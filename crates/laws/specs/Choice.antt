@@ -1,7 +1,7 @@
 -- Choices and questions. A choice between two values is the library's `cond`. Here are the conjunction and the disjunction of two
 -- tests and the first no among questions, with the laws that take them apart and put them together, and the case of each test on
 -- numbers. Assumes nothing.
-use Prim.Native.Nat.{ℕ, _≤_, _<_}
+use Prim.Native.Nat.{ℕ, suc, _+_, _-_, _≤_, _<_}
 use mathlib.Core.Bool.{Bool, true, false, cond, not}
 use mathlib.Core.Path.{_≡_, refl, sym, _∙_, ap, subst}
 use mathlib.Core.Logic.{_⊎_, inl, inr}
@@ -169,3 +169,17 @@ pub same-test : (a b : Bool) → (a ≡ true → b ≡ true) → (b ≡ true →
 same-test true b f g = sym (f refl)
 same-test false true f g = g refl
 same-test false false f g = refl
+
+-- tests on numbers that hold in the same cases
+pub leb-same : (m n p q : ℕ) → (m ≤ n → p ≤ q) → (p ≤ q → m ≤ n) → leb m n ≡ leb p q
+leb-same m n p q f g = same-test (leb m n) (leb p q) (λ e. le-leb p q (f (leb-true m n e))) (λ e. le-leb m n (g (leb-true p q e)))
+
+pub eqb-same : (m n p q : ℕ) → (m ≡ n → p ≡ q) → (p ≡ q → m ≡ n) → eqb m n ≡ eqb p q
+eqb-same m n p q f g = same-test (eqb m n) (eqb p q) (λ e. eq-eqb p q (f (eqb-true m n e))) (λ e. eq-eqb m n (g (eqb-true p q e)))
+
+-- a sum against a bound, told by a difference that does not wrap
+pub leb-less : (a l e : ℕ) → a ≤ e → leb l (e - a) ≡ leb (a + l) e
+leb-less a l e h = leb-same l (e - a) (a + l) e (omega arith) (omega arith)
+
+pub ltb-less : (a l x : ℕ) → a ≤ x → ltb (x - a) l ≡ ltb x (a + l)
+ltb-less a l x h = leb-same (suc (x - a)) l (suc x) (a + l) (omega arith) (omega arith)

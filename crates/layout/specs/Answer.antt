@@ -1,0 +1,37 @@
+-- What each case of an answer means: document 01's refusal number, 0 where nothing was refused, and the value. A promise gives the
+-- number and the value, and these definitions give the case.
+use Prim.Native.Nat.{ℕ}
+use mathlib.Core.Bool.{Bool, cond}
+use mathlib.Core.Option.{Option, none, some}
+use lib.Dec.{eqb}
+use Rattle.layout.specs.declared.location.Location.{Location}
+use Rattle.layout.specs.declared.answer.Address.{Address}
+use Rattle.layout.specs.declared.answer.Address.the-variants as address
+use Rattle.layout.specs.declared.answer.Position.{Position}
+use Rattle.layout.specs.declared.answer.Position.the-variants as position
+use Rattle.layout.specs.declared.answer.Decision.{Decision}
+use Rattle.layout.specs.declared.answer.Decision.the-variants as decision
+use Rattle.layout.specs.declared.answer.Located.{Located}
+use Rattle.layout.specs.declared.answer.Located.the-variants as located
+use Rattle.layout.specs.declared.answer.MaybeLocated.{MaybeLocated}
+use Rattle.layout.specs.declared.answer.MaybeLocated.the-variants as maybe
+
+-- from the number and the value to the case
+abbrev pub addressed : ℕ → ℕ → Address
+addressed q a = cond (eqb q 0) (address.At a) (address.Refused q)
+
+abbrev pub positioned : ℕ → ℕ → Position
+positioned q p = cond (eqb q 0) (position.At p) (position.Refused q)
+
+abbrev pub decided : ℕ → Bool → Decision
+decided q b = cond (eqb q 0) (decision.Is b) (decision.Refused q)
+
+abbrev pub locatedAt : ℕ → Location → Located
+locatedAt q l = cond (eqb q 0) (located.At l) (located.Refused q)
+
+abbrev pub somewhere : Option Location → MaybeLocated
+somewhere none = maybe.Nowhere
+somewhere (some l) = maybe.At l
+
+abbrev pub maybeLocated : ℕ → Option Location → MaybeLocated
+maybeLocated q o = cond (eqb q 0) (somewhere o) (maybe.Refused q)

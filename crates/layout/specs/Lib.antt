@@ -1,0 +1,5 @@
+pub mod Geometry
+pub mod Answer
+pub mod Location
+pub mod Journal
+pub mod Laws
