@@ -1,0 +1,6 @@
+pub mod Answer
+pub mod Interval
+pub mod Overlap
+pub mod Journal
+pub mod Facts
+pub mod Laws

@@ -1,0 +1,15 @@
+// The answers of this crate beside layout's: the value asked for, or the number of the question that was answered no.
+use super::interval::JournalInterval;
+
+// An interval.
+pub enum Spanned {
+    Is(JournalInterval),
+    Refused(u8),
+}
+
+// An interval, or none.
+pub enum MaybeSpanned {
+    Is(JournalInterval),
+    Nothing,
+    Refused(u8),
+}

@@ -1,0 +1,4 @@
+pub struct JournalInterval {
+    pub start: u64,
+    pub len: u64,
+}

@@ -1,0 +1,63 @@
+-- Laws of the superblock: well-formedness as facts, the counter's successor as a sum that wraps, and which slot is selected.
+use Prim.Native.Nat.{ℕ, _+_, _*_, _^_, _%_, _≤_, _<_}
+use mathlib.Core.Bool.{Bool, true, false, cond}
+use mathlib.Core.Path.{_≡_, refl, sym, _∙_, ap}
+use native.Mathlib.Omega.{arith}
+use lib.Dec.{leb, ltb, eqb}
+use borrow.Author.Tests.{leb-true, le-leb, ltb-true, lt-ltb, eqb-true, eq-eqb, ne-eqb}
+use Rattle.laws.specs.Choice.{also-left, also-right, also-both, by-eqb}
+use Rattle.layout.specs.declared.geometry.Geometry.{Geometry}
+use Rattle.layout.specs.Laws.{ValidIndirectionTableLocation, table-location-facts, facts-table-location}
+use Rattle.superblock.specs.declared.superblock.Superblock.{Superblock}
+use Rattle.superblock.specs.Superblock.{IncrementSuperblockCounter, increments1, SelectSuperblockIndex, SelectSuperblock, wfSuperblock}
+
+pub record WFSuperblock (g : Geometry) (s : Superblock) : Type 0 where
+  pub start-in : s .journalStart < g .blocks
+  pub len-in : s .journalLen ≤ g .blocks
+  pub table-valid : ValidIndirectionTableLocation g (s .indirectionTableLoc)
+
+module _ (g : Geometry) (s : Superblock) where
+  pub superblock-facts : wfSuperblock g s ≡ true → WFSuperblock g s
+  unfolding wfSuperblock
+  superblock-facts e =
+      let e1 = also-right _ _ e in
+      record {
+        start-in = ltb-true (s .journalStart) (g .blocks) (also-left _ _ e);
+        len-in = leb-true (s .journalLen) (g .blocks) (also-left _ _ e1);
+        table-valid = table-location-facts g (s .indirectionTableLoc) (also-right _ _ e1);
+      }
+
+  pub facts-superblock : WFSuperblock g s → wfSuperblock g s ≡ true
+  unfolding wfSuperblock
+  facts-superblock w =
+      also-both _ _ (lt-ltb (s .journalStart) (g .blocks) (w .start-in))
+      (also-both _ _ (le-leb (s .journalLen) (g .blocks) (w .len-in)) (facts-table-location g (s .indirectionTableLoc) (w .table-valid)))
+
+-- the successor is the sum that wraps, stays a 64-bit number, and differs from the counter
+pub increment-wraps : (i : ℕ) → i < 2 ^ 64 → IncrementSuperblockCounter i ≡ (i + 1) % 2 ^ 64
+unfolding IncrementSuperblockCounter
+increment-wraps i h =
+    by-eqb (λ (n : ℕ). n ≡ (i + 1) % 2 ^ 64) i 18446744073709551615 0 (i + 1)
+    (λ e. omega arith)
+    (λ e. omega arith)
+
+pub increment-in : (i : ℕ) → i < 2 ^ 64 → IncrementSuperblockCounter i < 2 ^ 64
+increment-in i h = let e = increment-wraps i h in omega arith
+
+-- the second slot is selected exactly where its counter follows the first's
+module _ (a b : Superblock) where
+  pub selects-second : b .counter ≡ IncrementSuperblockCounter (a .counter) → SelectSuperblockIndex a b ≡ 1
+  unfolding SelectSuperblockIndex increments1
+  selects-second e = simp (eq-eqb (b .counter) (IncrementSuperblockCounter (a .counter)) e)
+
+  pub selects-first : (b .counter ≡ IncrementSuperblockCounter (a .counter) → ⊥) → SelectSuperblockIndex a b ≡ 0
+  unfolding SelectSuperblockIndex increments1
+  selects-first h = simp (ne-eqb (b .counter) (IncrementSuperblockCounter (a .counter)) h)
+
+  pub selected-second : SelectSuperblockIndex a b ≡ 1 → SelectSuperblock a b ≡ b
+  unfolding SelectSuperblock
+  selected-second e = simp (eq-eqb (SelectSuperblockIndex a b) 1 e)
+
+  pub selected-first : SelectSuperblockIndex a b ≡ 0 → SelectSuperblock a b ≡ a
+  unfolding SelectSuperblock
+  selected-first e = let h : SelectSuperblockIndex a b ≡ 1 → ⊥ = λ k. omega arith in simp (ne-eqb (SelectSuperblockIndex a b) 1 h)

@@ -1,0 +1,11 @@
+// The superblock, and the operations that machine and disk share. The public face:
+//   Superblock          counter, the journal's start and len, the table's location; well-formed, the next counter
+//   selection           which of two superblocks is the newer
+//   DiskOp              what the machine asks of the disk and what the disk answers (source 001)
+mod disk_op;
+mod superblock;
+
+pub use disk_op::DiskOp;
+pub use disk_op::MaybeId;
+pub use disk_op::MaybeSuperblock;
+pub use superblock::Superblock;
