@@ -164,6 +164,11 @@ pub split-bool {κ} : {P : Type κ} (b : Bool) → (b ≡ true → P) → (b ≡
 split-bool true f g = f refl
 split-bool false f g = g refl
 
+-- a test that can't hold
+pub not-so : (b : Bool) → (b ≡ true → ⊥) → b ≡ false
+not-so true h = absurd (h refl)
+not-so false h = refl
+
 -- two tests that hold in the same cases are equal
 pub same-test : (a b : Bool) → (a ≡ true → b ≡ true) → (b ≡ true → a ≡ true) → a ≡ b
 same-test true b f g = sym (f refl)

@@ -1,0 +1,5 @@
+pub mod Form
+pub mod Bytes
+pub mod Blocks
+pub mod Shape
+pub mod Round

@@ -1,0 +1,106 @@
+-- The form is one to one: what is encoded parses to the same entries, and bytes that parse are what their entries encode to. Over the
+-- width w of a length and the greatest entry length. Assumes nothing.
+use Prim.Native.Nat.{ℕ, zero, suc, _+_, _*_, _-_, _/_, _^_, _≤_, _<_}
+use mathlib.Core.Bool.{Bool, true, false, cond}
+use mathlib.Core.Path.{_≡_, refl, sym, _∙_, ap}
+use mathlib.Core.List.{List, [], _∷_, _++_, append-assoc}
+use mathlib.Core.Option.{Option, none, some}
+use native.Mathlib.Omega.{arith}
+use lib.ListN.{length, take, drop, getD, replicate, length-append, length-drop, length-replicate, take-append-drop}
+use lib.Dec.{eqb}
+use lib.Seq.{take-at, drop-at, drop-drop, take-add}
+use borrow.Author.Tests.{eq-eqb, eqb-true}
+use Rattle.laws.specs.Choice.{also, also-left, also-right}
+use Rattle.laws.specs.Fold.{sum, every, every-take, every-drop, every-replicate}
+use Rattle.laws.specs.Cut.{cut, flat, lengths, length-lengths, length-flat, lengths-cut, flat-cut, cut-flat}
+use Rattle.range.specs.Form.{Entry, BlockSize, MostEntries, HeadSize, lowFirst, fromLow, lengthBytes, lengthsFrom, blocksFor, usedAt, blocksAt, encodeAt, blockCount, entryCount, lengthsAt, usedIn, entriesAt, okLength, isZero, parsesAt, parseAt, Good}
+use Rattle.range.specs.Bytes.{isByte, Bytes, length-lowFirst, fromLow-lowFirst, lowFirst-fromLow, length-lengthBytes, lengthsFrom-lengthBytes, lengthBytes-lengthsFrom}
+use Rattle.range.specs.Blocks.{Sizes, length-encodeAt, good-blocks, good-count}
+use Rattle.range.specs.Shape.{Shape, shape-of, shape-facts, shape-yes, length-lengthsAt, length-entriesAt}
+
+-- the zeros behind the last body
+abbrev pub padding : ℕ → List Entry → List ℕ
+padding w es = replicate (blocksAt w es * BlockSize - usedAt w es) 0
+
+-- an encoded range, run by run from the front
+module _ (w : ℕ) (es : List Entry) where
+  pub encode-runs : encodeAt w es
+      ≡ lowFirst 2 (blocksAt w es) ++ (lowFirst 2 (length es) ++ (lengthBytes w (lengths es) ++ (flat es ++ padding w es)))
+  unfolding encodeAt
+  encode-runs = simp append-assoc
+
+  after-blocks : drop 2 (encodeAt w es) ≡ lowFirst 2 (length es) ++ (lengthBytes w (lengths es) ++ (flat es ++ padding w es))
+  after-blocks =
+      ap (drop 2) encode-runs
+      ∙ drop-at (lowFirst 2 (blocksAt w es)) (lowFirst 2 (length es) ++ (lengthBytes w (lengths es) ++ (flat es ++ padding w es))) 2 (length-lowFirst 2 (blocksAt w es))
+
+  pub after-head : drop HeadSize (encodeAt w es) ≡ lengthBytes w (lengths es) ++ (flat es ++ padding w es)
+  after-head =
+      sym (drop-drop 2 2 (encodeAt w es))
+      ∙ ap (drop 2) after-blocks
+      ∙ drop-at (lowFirst 2 (length es)) (lengthBytes w (lengths es) ++ (flat es ++ padding w es)) 2 (length-lowFirst 2 (length es))
+
+  pub after-lengths : drop (HeadSize + length es * w) (encodeAt w es) ≡ flat es ++ padding w es
+  after-lengths =
+      sym (drop-drop (length es * w) HeadSize (encodeAt w es))
+      ∙ ap (drop (length es * w)) after-head
+      ∙ drop-at (lengthBytes w (lengths es)) (flat es ++ padding w es) (length es * w)
+      (length-lengthBytes w (lengths es) ∙ ap (λ (n : ℕ). n * w) (length-lengths es))
+
+  pub after-bodies : drop (usedAt w es) (encodeAt w es) ≡ padding w es
+  after-bodies =
+      sym (drop-drop (sum (lengths es)) (HeadSize + length es * w) (encodeAt w es))
+      ∙ ap (drop (sum (lengths es))) after-lengths
+      ∙ drop-at (flat es) (padding w es) (sum (lengths es)) (length-flat es)
+
+-- what an encoded range says of itself
+module _ (w most : ℕ) (es : List Entry) (s : Sizes w most) (g : Good most es) where
+  pub blockCount-encode : blockCount (encodeAt w es) ≡ blocksAt w es
+  unfolding blockCount
+  blockCount-encode =
+      ap (λ (l : List ℕ). fromLow (take 2 l)) (encode-runs w es)
+      ∙ ap fromLow (take-at (lowFirst 2 (blocksAt w es)) (lowFirst 2 (length es) ++ (lengthBytes w (lengths es) ++ (flat es ++ padding w es))) 2 (length-lowFirst 2 (blocksAt w es)))
+      ∙ fromLow-lowFirst 2 (blocksAt w es) (good-blocks w most es s g)
+
+  pub entryCount-encode : entryCount (encodeAt w es) ≡ length es
+  unfolding entryCount
+  entryCount-encode =
+      ap (λ (l : List ℕ). fromLow (take 2 l)) (after-blocks w es)
+      ∙ ap fromLow (take-at (lowFirst 2 (length es)) (lengthBytes w (lengths es) ++ (flat es ++ padding w es)) 2 (length-lowFirst 2 (length es)))
+      ∙ fromLow-lowFirst 2 (length es) (good-count most es g)
+
+  pub lengthsAt-encode : lengthsAt w (encodeAt w es) ≡ lengths es
+  unfolding lengthsAt
+  lengthsAt-encode =
+      (λ i. lengthsFrom w ((entryCount-encode ∙ sym (length-lengths es)) i) (after-head w es i))
+      ∙ lengthsFrom-lengthBytes w most (lengths es) (flat es ++ padding w es) (s .length-fits) (g .each)
+
+  pub entriesAt-encode : entriesAt w (encodeAt w es) ≡ es
+  unfolding entriesAt
+  entriesAt-encode =
+      (λ i. cut (lengthsAt-encode i) (drop (HeadSize + entryCount-encode i * w) (encodeAt w es)))
+      ∙ ap (cut (lengths es)) (after-lengths w es)
+      ∙ cut-flat es (padding w es)
+
+  usedIn-encode : usedIn w (encodeAt w es) ≡ usedAt w es
+  usedIn-encode = λ i. HeadSize + entryCount-encode i * w + sum (lengthsAt-encode i)
+
+  pub shape-encode : Shape w most (encodeAt w es)
+  unfolding isZero
+  shape-encode =
+      shape-of w most (encodeAt w es)
+      (length-encodeAt w es ∙ ap (λ (n : ℕ). n * BlockSize) (sym blockCount-encode))
+      (rw entryCount-encode (g .any))
+      (rw entryCount-encode (g .few))
+      (rw lengthsAt-encode (g .each))
+      (blockCount-encode ∙ ap blocksFor (sym usedIn-encode))
+      (ap (λ (n : ℕ). every isZero (drop n (encodeAt w es))) usedIn-encode
+      ∙ ap (every isZero) (after-bodies w es)
+      ∙ every-replicate isZero (blocksAt w es * BlockSize - usedAt w es) 0 refl)
+
+  pub parses-encode : parsesAt w most (encodeAt w es) ≡ true
+  parses-encode = shape-yes w most (encodeAt w es) shape-encode
+
+  pub parse-encode : parseAt w most (encodeAt w es) ≡ some es
+  unfolding parseAt
+  parse-encode = rw parses-encode (ap {B = Option (List Entry)} some entriesAt-encode)
