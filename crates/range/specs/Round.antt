@@ -8,10 +8,11 @@ use mathlib.Core.Option.{Option, none, some}
 use native.Mathlib.Omega.{arith}
 use lib.ListN.{length, take, drop, getD, replicate, length-append, length-drop, length-replicate, take-append-drop}
 use lib.Dec.{eqb}
-use lib.Seq.{take-at, drop-at, drop-drop, take-add}
+use lib.Seq.{take-at, drop-at, drop-drop, take-add, length-take-le}
 use borrow.Author.Tests.{eq-eqb, eqb-true}
-use Rattle.laws.specs.Choice.{also, also-left, also-right}
+use Rattle.laws.specs.Choice.{also, also-left, also-right, cond-some}
 use Rattle.laws.specs.Fold.{sum, every, every-take, every-drop, every-replicate}
+use Rattle.laws.specs.Part.{length-part, part-then}
 use Rattle.laws.specs.Cut.{cut, flat, lengths, length-lengths, length-flat, lengths-cut, flat-cut, cut-flat}
 use Rattle.range.specs.Form.{Entry, BlockSize, MostEntries, HeadSize, lowFirst, fromLow, lengthBytes, lengthsFrom, blocksFor, usedAt, blocksAt, encodeAt, blockCount, entryCount, lengthsAt, usedIn, entriesAt, okLength, isZero, parsesAt, parseAt, Good}
 use Rattle.range.specs.Bytes.{isByte, Bytes, length-lowFirst, fromLow-lowFirst, lowFirst-fromLow, length-lengthBytes, lengthsFrom-lengthBytes, lengthBytes-lengthsFrom}
@@ -104,3 +105,87 @@ module _ (w most : ℕ) (es : List Entry) (s : Sizes w most) (g : Good most es) 
   pub parse-encode : parseAt w most (encodeAt w es) ≡ some es
   unfolding parseAt
   parse-encode = rw parses-encode (ap {B = Option (List Entry)} some entriesAt-encode)
+
+-- zeros are a run of the number 0
+pub zeros-are : (xs : List ℕ) → every isZero xs ≡ true → xs ≡ replicate (length xs) 0
+unfolding every isZero
+zeros-are [] e = refl
+zeros-are (x ∷ xs) e =
+    λ i. eqb-true x 0 (also-left (eqb x 0) (every isZero xs) e) i ∷ zeros-are xs (also-right (eqb x 0) (every isZero xs) e) i
+
+-- the entries of bytes that have the shape: their lengths are those that the bytes give, and one range can hold them
+module _ (w most : ℕ) (xs : List ℕ) (s : Shape w most xs) where
+  pub lengths-entriesAt : lengths (entriesAt w xs) ≡ lengthsAt w xs
+  unfolding entriesAt
+  lengths-entriesAt = lengths-cut (lengthsAt w xs) (drop (HeadSize + entryCount xs * w) xs) (simp length-drop (omega arith))
+
+  pub good-entriesAt : Good most (entriesAt w xs)
+  good-entriesAt =
+      record {
+        any = rw (length-entriesAt w xs) (s .any);
+        few = rw (length-entriesAt w xs) (s .few);
+        each = rw lengths-entriesAt (s .each);
+      }
+
+  pub usedAt-entriesAt : usedAt w (entriesAt w xs) ≡ usedIn w xs
+  usedAt-entriesAt = λ i. HeadSize + length-entriesAt w xs i * w + sum (lengths-entriesAt i)
+
+  pub blocksAt-entriesAt : blocksAt w (entriesAt w xs) ≡ blockCount xs
+  blocksAt-entriesAt = ap blocksFor usedAt-entriesAt ∙ sym (s .fewest)
+
+  -- no other bytes stand for them
+  module _ (b : Bytes xs) where
+    head-again : lowFirst 2 (blocksAt w (entriesAt w xs)) ≡ take 2 xs
+    unfolding blockCount
+    head-again =
+        let l : length (take 2 xs) ≡ 2 = length-take-le 2 xs (omega arith) in
+        ap (lowFirst 2) blocksAt-entriesAt ∙ rw l at (lowFirst-fromLow (take 2 xs) (every-take isByte 2 xs b))
+
+    count-again : lowFirst 2 (length (entriesAt w xs)) ≡ take 2 (drop 2 xs)
+    unfolding entryCount
+    count-again =
+        let l : length (take 2 (drop 2 xs)) ≡ 2 = length-part xs 2 2 (omega arith) in
+        ap (lowFirst 2) (length-entriesAt w xs)
+        ∙ rw l at (lowFirst-fromLow (take 2 (drop 2 xs)) (every-take isByte 2 (drop 2 xs) (every-drop isByte 2 xs b)))
+
+    lengths-again : lengthBytes w (lengths (entriesAt w xs)) ≡ take (entryCount xs * w) (drop HeadSize xs)
+    unfolding lengthsAt
+    lengths-again =
+        ap (lengthBytes w) lengths-entriesAt
+        ∙ lengthBytes-lengthsFrom w (entryCount xs) (drop HeadSize xs) (every-drop isByte HeadSize xs b) (simp length-drop (omega arith))
+
+    bodies-again : flat (entriesAt w xs) ≡ take (sum (lengthsAt w xs)) (drop (HeadSize + entryCount xs * w) xs)
+    unfolding entriesAt
+    bodies-again = flat-cut (lengthsAt w xs) (drop (HeadSize + entryCount xs * w) xs)
+
+    padding-again : padding w (entriesAt w xs) ≡ drop (usedIn w xs) xs
+    padding-again =
+        let n : blocksAt w (entriesAt w xs) * BlockSize - usedAt w (entriesAt w xs) ≡ length (drop (usedIn w xs) xs)
+        = rw (blocksAt-entriesAt, usedAt-entriesAt, length-drop, s .whole) refl in
+        ap (λ (k : ℕ). replicate {A = ℕ} k 0) n ∙ sym (zeros-are (drop (usedIn w xs) xs) (s .zeros))
+
+    pub encode-entriesAt : encodeAt w (entriesAt w xs) ≡ xs
+    encode-entriesAt =
+        encode-runs w (entriesAt w xs)
+        ∙ (λ i. head-again i ++ (count-again i ++ (lengths-again i ++ (bodies-again i ++ padding-again i))))
+        ∙ ap (λ (l : List ℕ). take 2 xs ++ (take 2 (drop 2 xs) ++ (take (entryCount xs * w) (drop HeadSize xs) ++ l)))
+        (part-then xs (HeadSize + entryCount xs * w) (sum (lengthsAt w xs)))
+        ∙ ap (λ (l : List ℕ). take 2 xs ++ (take 2 (drop 2 xs) ++ l)) (part-then xs HeadSize (entryCount xs * w))
+        ∙ ap (λ (l : List ℕ). take 2 xs ++ l) (part-then xs 2 2)
+        ∙ take-append-drop 2 xs
+
+-- both ways, as the option has them
+module _ (w most : ℕ) (xs : List ℕ) (es : List Entry) (e : parseAt w most xs ≡ some es) where
+  pub parse-parses : parsesAt w most xs ≡ true
+  unfolding parseAt
+  parse-parses = cond-some (parsesAt w most xs) (entriesAt w xs) es e .0
+
+  pub parse-entries : entriesAt w xs ≡ es
+  unfolding parseAt
+  parse-entries = cond-some (parsesAt w most xs) (entriesAt w xs) es e .1
+
+  pub parse-good : Good most es
+  parse-good = rw parse-entries at (good-entriesAt w most xs (shape-facts w most xs parse-parses))
+
+  pub parse-unique : Bytes xs → xs ≡ encodeAt w es
+  parse-unique b = sym (encode-entriesAt w most xs (shape-facts w most xs parse-parses) b) ∙ ap (encodeAt w) parse-entries
