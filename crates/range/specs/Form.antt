@@ -138,6 +138,13 @@ allEntriesAt w xs = flat (map (entriesAt w) (ranges xs))
 unfoldable pub parseAllAt : ℕ → ℕ → List ℕ → Option (List Entry)
 parseAllAt w most xs = cond (allParseAt w most xs) (some (allEntriesAt w xs)) none
 
+-- several ranges' entries, encoded one range after another, and all their blocks
+unfoldable pub encodeAllAt : ℕ → List (List Entry) → List ℕ
+encodeAllAt w rs = flat (map (encodeAt w) rs)
+
+unfoldable pub blocksAllAt : ℕ → List (List Entry) → ℕ
+blocksAllAt w rs = sum (map (blocksAt w) rs)
+
 -- the format
 abbrev pub blocks : List Entry → ℕ
 blocks = blocksAt LengthWidth
@@ -162,3 +169,9 @@ allParse = allParseAt LengthWidth MostEntryLength
 
 abbrev pub parseJournalRange : List ℕ → Option (List Entry)
 parseJournalRange = parseAllAt LengthWidth MostEntryLength
+
+abbrev pub encodeAll : List (List Entry) → List ℕ
+encodeAll = encodeAllAt LengthWidth
+
+abbrev pub blocksAll : List (List Entry) → ℕ
+blocksAll = blocksAllAt LengthWidth

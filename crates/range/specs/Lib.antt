@@ -3,3 +3,5 @@ pub mod Bytes
 pub mod Blocks
 pub mod Shape
 pub mod Round
+pub mod Ranges
+pub mod Walk

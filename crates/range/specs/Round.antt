@@ -4,6 +4,7 @@ use Prim.Native.Nat.{ℕ, zero, suc, _+_, _*_, _-_, _/_, _^_, _≤_, _<_}
 use mathlib.Core.Bool.{Bool, true, false, cond}
 use mathlib.Core.Path.{_≡_, refl, sym, _∙_, ap}
 use mathlib.Core.List.{List, [], _∷_, _++_, append-assoc}
+use mathlib.Core.Logic.{_↔_}
 use mathlib.Core.Option.{Option, none, some}
 use native.Mathlib.Omega.{arith}
 use lib.ListN.{length, take, drop, getD, replicate, length-append, length-drop, length-replicate, take-append-drop}
@@ -189,3 +190,9 @@ module _ (w most : ℕ) (xs : List ℕ) (es : List Entry) (e : parseAt w most xs
 
   pub parse-unique : Bytes xs → xs ≡ encodeAt w es
   parse-unique b = sym (encode-entriesAt w most xs (shape-facts w most xs parse-parses) b) ∙ ap (encodeAt w) parse-entries
+
+-- so bytes parse to entries exactly where one range can hold these and the bytes are what they encode to
+pub parse-iff : (w most : ℕ) (xs : List ℕ) (es : List Entry) → Sizes w most → Bytes xs
+    → (parseAt w most xs ≡ some es) ↔ (Good most es × (xs ≡ encodeAt w es))
+parse-iff w most xs es s b =
+    (λ e. (parse-good w most xs es e, parse-unique w most xs es e b), λ t. ap (parseAt w most) (t .1) ∙ parse-encode w most es s (t .0))
