@@ -1,15 +1,14 @@
 -- How large a range is: its bytes and its blocks, and that both counts of its head fit in two bytes. Over the width w of a length and the
 -- greatest entry length. Assumes nothing.
-use Prim.Native.Nat.{ℕ, zero, suc, _+_, _*_, _-_, _/_, _%_, _^_, _≤_, _<_}
-use mathlib.Core.Bool.{Bool, true, false}
-use mathlib.Core.Path.{_≡_, refl, sym, _∙_, ap}
-use mathlib.Core.List.{List, [], _∷_, _++_}
-use native.Mathlib.Nat.{mul-le-mul-left, mul-le-mul-right, mul-comm}
+use Prim.Native.Nat.{ℕ, _*_, _^_, _≤_, _<_}
+use mathlib.Core.Path.{_≡_}
+use mathlib.Core.List.{List}
+use native.Mathlib.Nat.{mul-le-mul-left, mul-le-mul-right}
 use native.Mathlib.Omega.{arith}
-use lib.ListN.{length, getD, replicate, length-append, length-replicate}
-use Rattle.laws.specs.Fold.{sum, every, every-at, sum-bound}
-use Rattle.laws.specs.Cut.{flat, lengths, length-lengths, length-flat}
-use Rattle.range.specs.Form.{Entry, BlockSize, MostEntries, MostEntryLength, LengthWidth, HeadSize, lowFirst, lengthBytes, used, blocksFor, usedAt, blocksAt, encodeAt, okLength, Good}
+use lib.ListN.{length, getD, length-append, length-replicate}
+use Rattle.laws.specs.Fold.{sum, every-at, sum-bound}
+use Rattle.laws.specs.Cut.{lengths, length-lengths, length-flat}
+use Rattle.range.specs.Form.{Entry, BlockSize, MostEntries, MostEntryLength, LengthWidth, used, blocksFor, usedAt, blocksAt, encodeAt, okLength, Good}
 use Rattle.range.specs.Bytes.{ok-high, length-lowFirst, length-lengthBytes}
 
 -- what a width and a greatest length keep to: every length fits in w bytes, and the block count of the largest range in two

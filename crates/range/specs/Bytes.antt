@@ -1,18 +1,18 @@
 -- Numbers and lengths as bytes: what is written low byte first reads back as it was, and bytes that were read are what would be written.
 -- Over the width w of a number in bytes. Assumes nothing.
-use Prim.Native.Nat.{ℕ, zero, suc, _+_, _*_, _-_, _/_, _%_, _^_, _≤_, _<_}
-use mathlib.Core.Bool.{Bool, true, false}
+use Prim.Native.Nat.{ℕ, zero, suc, _+_, _*_, _/_, _%_, _^_, _≤_, _<_}
+use mathlib.Core.Bool.{Bool, true}
 use mathlib.Core.Path.{_≡_, refl, sym, _∙_, ap}
 use mathlib.Core.List.{List, [], _∷_, _++_, append-assoc}
-use native.Mathlib.Nat.{pow-suc, pow-zero, zero-mul, suc-mul, zero-add, add-comm, mul-one}
+use native.Mathlib.Nat.{pow-suc, pow-zero, zero-mul, suc-mul, add-comm}
 use native.Mathlib.Omega.{arith}
-use lib.ListN.{length, take, drop, getD, length-append, length-drop, length-take}
-use lib.Dec.{leb, ltb, eqb}
+use lib.ListN.{length, take, drop, getD, length-append, length-drop}
+use lib.Dec.{leb, ltb}
 use lib.Seq.{take-at, drop-at, take-add, drop-drop, length-take-le, getD-drop}
 use borrow.Author.Tests.{lt-ltb, le-leb, ltb-true, leb-true}
-use Rattle.laws.specs.Choice.{also, also-left, also-right, also-both}
-use Rattle.laws.specs.Fold.{sum, every, every-append, every-take, every-drop, every-all, every-at}
-use Rattle.range.specs.Form.{lowFirst, fromLow, lengthBytes, lengthsFrom, okLength, blockCount, entryCount, used, MostEntries, BlockSize}
+use Rattle.laws.specs.Choice.{also-left, also-right, also-both}
+use Rattle.laws.specs.Fold.{every, every-append, every-take, every-drop, every-all, every-at}
+use Rattle.range.specs.Form.{lowFirst, fromLow, lengthBytes, lengthsFrom, okLength, blockCount, entryCount}
 
 -- a number that a byte holds, and a list of such
 unfoldable pub isByte : ℕ → Bool

@@ -1,24 +1,23 @@
 -- Ranges one after another, as an interval of the journal has them. Bytes are cut into ranges in one way; where all of them parse, the
 -- entries are those of each in turn, and encoding these gives the bytes back. Over the width w of a length and the greatest entry length.
 -- Assumes nothing.
-use Prim.Native.Nat.{ℕ, zero, suc, _+_, _*_, _-_, _/_, _≤_, _<_, max}
-use mathlib.Core.Bool.{Bool, true, false, cond}
+use Prim.Native.Nat.{ℕ, zero, suc, _+_, _*_, _≤_, _<_}
+use mathlib.Core.Bool.{Bool, true}
 use mathlib.Core.Path.{_≡_, refl, sym, _∙_, ap}
 use mathlib.Core.List.{List, [], _∷_, _++_, append-assoc, append-nil, map, map-append}
 use mathlib.Core.Logic.{_↔_}
-use mathlib.Core.Option.{Option, none, some}
+use mathlib.Core.Option.{Option, some}
 use native.Mathlib.Omega.{arith}
-use lib.ListN.{length, take, drop, getD, length-append, length-drop, take-append-drop}
-use lib.Seq.{take-at, drop-at, take-all, drop-drop, take-append-le}
-use Rattle.laws.specs.Choice.{also, also-left, also-right, also-both, not-so, false-true, cond-some}
-use Rattle.laws.specs.Part.{drop-end}
+use lib.ListN.{length, take, drop, length-append, length-drop, take-append-drop}
+use lib.Seq.{take-at, drop-at, take-append-le}
+use Rattle.laws.specs.Choice.{also, also-left, also-right, also-both, cond-some}
 use Rattle.laws.specs.Fold.{sum, every, Each, every-append, sum-append}
 use Rattle.laws.specs.Cut.{flat, lengths, flat-append, lengths-append}
-use Rattle.range.specs.Form.{Entry, BlockSize, MostEntries, blocksAt, encodeAt, fromLow, blockCount, entryCount, entriesAt, okLength, parsesAt, Good, rangeSize, rangesWithin, ranges, allParseAt, allEntriesAt, parseAllAt, encodeAllAt, blocksAllAt}
+use Rattle.range.specs.Form.{Entry, BlockSize, blocksAt, encodeAt, fromLow, blockCount, entriesAt, okLength, parsesAt, Good, rangeSize, rangesWithin, ranges, allParseAt, allEntriesAt, parseAllAt, encodeAllAt, blocksAllAt}
 use Rattle.range.specs.Bytes.{isByte, Bytes}
 use Rattle.range.specs.Blocks.{Sizes, length-encodeAt}
-use Rattle.range.specs.Shape.{Shape, shape-facts, parses-part, length-entriesAt}
-use Rattle.range.specs.Round.{parses-encode, entriesAt-encode, lengths-entriesAt, good-entriesAt, encode-entriesAt}
+use Rattle.range.specs.Shape.{shape-facts, length-entriesAt}
+use Rattle.range.specs.Round.{parses-encode, entriesAt-encode, lengths-entriesAt, blocksAt-entriesAt, good-entriesAt, encode-entriesAt}
 
 -- no more ranges than bytes: any larger bound gives the same
 ranges-any : (k m : ℕ) (xs : List ℕ) → length xs ≤ k → length xs ≤ m → rangesWithin k xs ≡ rangesWithin m xs
@@ -210,6 +209,17 @@ length-encodeAll w (r ∷ rs) =
     let h = length-encodeAt w r in
     simp length-append (omega arith)
 
+-- the bytes of some ranges, and of those after them
+pub encodeAll-before : (w : ℕ) (rs qs : List (List Entry)) → take (blocksAllAt w rs * BlockSize) (encodeAllAt w (rs ++ qs)) ≡ encodeAllAt w rs
+encodeAll-before w rs qs =
+    ap (take (blocksAllAt w rs * BlockSize)) (encodeAll-append w rs qs)
+    ∙ take-at (encodeAllAt w rs) (encodeAllAt w qs) (blocksAllAt w rs * BlockSize) (length-encodeAll w rs)
+
+pub encodeAll-after : (w : ℕ) (rs qs : List (List Entry)) → drop (blocksAllAt w rs * BlockSize) (encodeAllAt w (rs ++ qs)) ≡ encodeAllAt w qs
+encodeAll-after w rs qs =
+    ap (drop (blocksAllAt w rs * BlockSize)) (encodeAll-append w rs qs)
+    ∙ drop-at (encodeAllAt w rs) (encodeAllAt w qs) (blocksAllAt w rs * BlockSize) (length-encodeAll w rs)
+
 -- so bytes parse exactly where they are ranges of good entries, one after another
 pub parseAll-iff : (w most : ℕ) (xs : List ℕ) (es : List Entry) → Sizes w most → Bytes xs
     → (parseAllAt w most xs ≡ some es) ↔ ((rs : List (List Entry)) × Each (Good most) rs × (xs ≡ encodeAllAt w rs) × (flat rs ≡ es))
@@ -224,7 +234,8 @@ parseAll-iff w most xs es s b = (there, back)
     back : (rs : List (List Entry)) × Each (Good most) rs × (xs ≡ encodeAllAt w rs) × (flat rs ≡ es) → parseAllAt w most xs ≡ some es
     back t = ap (parseAllAt w most) (t .2) ∙ parseAll-encodeAll w most s (t .0) (t .1) ∙ ap {B = Option (List Entry)} some (t .3)
 
--- what the entries of bytes that parse take: no more entries and no more body bytes than there are bytes, each of an allowed length
+-- what bytes that parse hold: no more entries and no more body bytes than there are bytes, each entry of an allowed length, and all in
+-- the blocks that the entries need
 module _ (w most : ℕ) where
   each-count : (rs : List (List ℕ)) → every (parsesAt w most) rs ≡ true → length (flat (map (entriesAt w) rs)) ≤ length (flat rs)
   unfolding every flat
@@ -252,7 +263,19 @@ module _ (w most : ℕ) where
       ∙ every-append (okLength most) (lengths (entriesAt w r)) (lengths (flat (map (entriesAt w) rs)))
       ∙ also-both _ _ (good-entriesAt w most r s .each) t
 
+  each-blocks : (rs : List (List ℕ)) → every (parsesAt w most) rs ≡ true → length (flat rs) ≡ sum (map (blocksAt w) (map (entriesAt w) rs)) * BlockSize
+  unfolding every flat sum
+  each-blocks [] e = refl
+  each-blocks (r ∷ rs) e =
+      let s = shape-facts w most r (also-left (parsesAt w most r) (every (parsesAt w most) rs) e) in
+      let t = each-blocks rs (also-right (parsesAt w most r) (every (parsesAt w most) rs) e) in
+      simp length-append (omega (arith, blocksAt-entriesAt w most r s))
+
   module _ (xs : List ℕ) (p : allParseAt w most xs ≡ true) where
+    pub allParse-blocks : length xs ≡ blocksAllAt w (map (entriesAt w) (ranges xs)) * BlockSize
+    unfolding blocksAllAt allParseAt
+    allParse-blocks = ap length (sym (flat-ranges xs)) ∙ each-blocks (ranges xs) p
+
     pub allEntries-count : length (allEntriesAt w xs) ≤ length xs
     unfolding allEntriesAt allParseAt
     allEntries-count = rw (flat-ranges xs) at (each-count (ranges xs) p)

@@ -1,24 +1,24 @@
 -- The form is one to one: what is encoded parses to the same entries, and bytes that parse are what their entries encode to. Over the
 -- width w of a length and the greatest entry length. Assumes nothing.
-use Prim.Native.Nat.{ℕ, zero, suc, _+_, _*_, _-_, _/_, _^_, _≤_, _<_}
-use mathlib.Core.Bool.{Bool, true, false, cond}
+use Prim.Native.Nat.{ℕ, _+_, _*_, _-_}
+use mathlib.Core.Bool.{true}
 use mathlib.Core.Path.{_≡_, refl, sym, _∙_, ap}
 use mathlib.Core.List.{List, [], _∷_, _++_, append-assoc}
 use mathlib.Core.Logic.{_↔_}
-use mathlib.Core.Option.{Option, none, some}
+use mathlib.Core.Option.{Option, some}
 use native.Mathlib.Omega.{arith}
-use lib.ListN.{length, take, drop, getD, replicate, length-append, length-drop, length-replicate, take-append-drop}
+use lib.ListN.{length, take, drop, replicate, length-drop, take-append-drop}
 use lib.Dec.{eqb}
-use lib.Seq.{take-at, drop-at, drop-drop, take-add, length-take-le}
-use borrow.Author.Tests.{eq-eqb, eqb-true}
-use Rattle.laws.specs.Choice.{also, also-left, also-right, cond-some}
-use Rattle.laws.specs.Fold.{sum, every, every-take, every-drop, every-replicate}
+use lib.Seq.{take-at, drop-at, drop-drop, length-take-le}
+use borrow.Author.Tests.{eqb-true}
+use Rattle.laws.specs.Choice.{also-left, also-right, also-both, cond-some}
+use Rattle.laws.specs.Fold.{sum, every, every-append, every-take, every-drop, every-replicate}
 use Rattle.laws.specs.Part.{length-part, part-then}
 use Rattle.laws.specs.Cut.{cut, flat, lengths, length-lengths, length-flat, lengths-cut, flat-cut, cut-flat}
-use Rattle.range.specs.Form.{Entry, BlockSize, MostEntries, HeadSize, lowFirst, fromLow, lengthBytes, lengthsFrom, blocksFor, usedAt, blocksAt, encodeAt, blockCount, entryCount, lengthsAt, usedIn, entriesAt, okLength, isZero, parsesAt, parseAt, Good}
-use Rattle.range.specs.Bytes.{isByte, Bytes, length-lowFirst, fromLow-lowFirst, lowFirst-fromLow, length-lengthBytes, lengthsFrom-lengthBytes, lengthBytes-lengthsFrom}
+use Rattle.range.specs.Form.{Entry, BlockSize, HeadSize, lowFirst, fromLow, lengthBytes, lengthsFrom, blocksFor, usedAt, blocksAt, encodeAt, blockCount, entryCount, lengthsAt, usedIn, entriesAt, isZero, parsesAt, parseAt, Good}
+use Rattle.range.specs.Bytes.{isByte, Bytes, length-lowFirst, fromLow-lowFirst, lowFirst-fromLow, lowFirst-bytes, length-lengthBytes, lengthBytes-bytes, lengthsFrom-lengthBytes, lengthBytes-lengthsFrom}
 use Rattle.range.specs.Blocks.{Sizes, length-encodeAt, good-blocks, good-count}
-use Rattle.range.specs.Shape.{Shape, shape-of, shape-facts, shape-yes, length-lengthsAt, length-entriesAt}
+use Rattle.range.specs.Shape.{Shape, shape-of, shape-facts, shape-yes, length-entriesAt}
 
 -- the zeros behind the last body
 abbrev pub padding : ℕ → List Entry → List ℕ
@@ -54,6 +54,19 @@ module _ (w : ℕ) (es : List Entry) where
       sym (drop-drop (sum (lengths es)) (HeadSize + length es * w) (encodeAt w es))
       ∙ ap (drop (sum (lengths es))) after-lengths
       ∙ drop-at (flat es) (padding w es) (sum (lengths es)) (length-flat es)
+
+-- an encoded range of bytes is bytes
+pub encode-bytes : (w : ℕ) (es : List Entry) → Bytes (flat es) → Bytes (encodeAt w es)
+unfolding isByte
+encode-bytes w es b =
+    ap (every isByte) (encode-runs w es)
+    ∙ joined (lowFirst 2 (blocksAt w es)) (lowFirst 2 (length es) ++ (lengthBytes w (lengths es) ++ (flat es ++ padding w es))) (lowFirst-bytes 2 (blocksAt w es))
+    (joined (lowFirst 2 (length es)) (lengthBytes w (lengths es) ++ (flat es ++ padding w es)) (lowFirst-bytes 2 (length es))
+    (joined (lengthBytes w (lengths es)) (flat es ++ padding w es) (lengthBytes-bytes w (lengths es))
+    (joined (flat es) (padding w es) b (every-replicate isByte (blocksAt w es * BlockSize - usedAt w es) 0 refl))))
+  where
+    joined : (xs ys : List ℕ) → Bytes xs → Bytes ys → Bytes (xs ++ ys)
+    joined xs ys p q = every-append isByte xs ys ∙ also-both (every isByte xs) (every isByte ys) p q
 
 -- what an encoded range says of itself
 module _ (w most : ℕ) (es : List Entry) (s : Sizes w most) (g : Good most es) where

@@ -1,18 +1,17 @@
 -- The clauses of `parsesAt` as plain facts, with what follows from them: bytes parse exactly where they have this shape. Then the ways
 -- out of a reader that asks one clause after another, and where the body of an entry lies. Assumes nothing.
-use Prim.Native.Nat.{ℕ, zero, suc, _+_, _*_, _-_, _/_, _≤_, _<_}
-use mathlib.Core.Bool.{Bool, true, false}
-use mathlib.Core.Path.{_≡_, refl, sym, _∙_, ap}
-use mathlib.Core.List.{List, [], _∷_, _++_}
+use Prim.Native.Nat.{ℕ, _+_, _*_, _≤_, _<_}
+use mathlib.Core.Bool.{true, false}
+use mathlib.Core.Path.{_≡_, sym, _∙_, ap}
+use mathlib.Core.List.{List, []}
 use native.Mathlib.Omega.{arith}
 use lib.ListN.{length, take, drop, getD, length-drop}
-use lib.Dec.{leb, ltb, eqb}
-use lib.Seq.{drop-drop}
+use lib.Seq.{drop-drop, take-take, getD-take, getD-drop}
 use borrow.Author.Tests.{eq-eqb, le-leb, eqb-true, leb-true}
-use Rattle.laws.specs.Choice.{also, also-left, also-right, also-both, not-so, false-true}
+use Rattle.laws.specs.Choice.{also-left, also-right, also-both, not-so, false-true}
 use Rattle.laws.specs.Fold.{sum, every, sum-split, sum-take-step}
-use Rattle.laws.specs.Cut.{cut, length-cut, cut-at}
-use Rattle.range.specs.Form.{Entry, BlockSize, MostEntries, HeadSize, fromLow, lengthsFrom, used, blocksFor, blockCount, entryCount, lengthsAt, usedIn, entriesAt, okLength, isZero, parsesAt}
+use Rattle.laws.specs.Cut.{length-cut, cut-at}
+use Rattle.range.specs.Form.{BlockSize, MostEntries, HeadSize, fromLow, blocksFor, blockCount, entryCount, lengthsAt, usedIn, entriesAt, okLength, isZero, parsesAt}
 use Rattle.range.specs.Bytes.{length-lengthsFrom, lengthsFrom-at, lengthsFrom-one}
 
 pub record Shape (w most : ℕ) (xs : List ℕ) : Type 0 where
@@ -103,7 +102,7 @@ module _ (w most : ℕ) (xs : List ℕ) where
       → blockCount xs ≡ blocksFor (usedIn w xs) → every isZero (drop (usedIn w xs) xs) ≡ true → true ≡ parsesAt w most xs
   parses-yes l a f e b z = sym (shape-yes w most xs (shape-of w most xs l a f e b z))
 
--- the lengths of a range, and at one byte each the part of the bytes that they are
+-- the lengths and the entries of a range
 module _ (w : ℕ) (xs : List ℕ) where
   pub length-lengthsAt : length (lengthsAt w xs) ≡ entryCount xs
   unfolding lengthsAt
@@ -132,9 +131,17 @@ module _ (w : ℕ) (xs : List ℕ) where
       → take n (drop a xs) ≡ getD (entriesAt w xs) i []
   entry-part i a n h p q = (λ j. take (q j) (drop (p j) xs)) ∙ sym (entry-at i h)
 
+-- at one byte each, the lengths are a part of the bytes
 pub lengthsAt-one : (xs : List ℕ) → HeadSize + entryCount xs ≤ length xs → lengthsAt 1 xs ≡ take (entryCount xs) (drop HeadSize xs)
 unfolding lengthsAt
 lengthsAt-one xs h = lengthsFrom-one (entryCount xs) (drop HeadSize xs) (simp length-drop (omega arith))
+
+pub lengthsAt-one-take : (xs : List ℕ) (i : ℕ) → HeadSize + entryCount xs ≤ length xs → i ≤ entryCount xs → take i (lengthsAt 1 xs) ≡ take i (drop HeadSize xs)
+lengthsAt-one-take xs i h k = ap (take i) (lengthsAt-one xs h) ∙ take-take i (entryCount xs) (drop HeadSize xs) k
+
+pub lengthsAt-one-at : (xs : List ℕ) (i : ℕ) → HeadSize + entryCount xs ≤ length xs → i < entryCount xs → getD (lengthsAt 1 xs) i 0 ≡ getD xs (HeadSize + i) 0
+lengthsAt-one-at xs i h k =
+    ap (λ (l : List ℕ). getD l i 0) (lengthsAt-one xs h) ∙ getD-take (entryCount xs) (drop HeadSize xs) i 0 k ∙ getD-drop HeadSize xs i 0
 
 -- the body of an entry lies within the bytes
 pub entry-in : (w most : ℕ) (xs : List ℕ) (i : ℕ) → Shape w most xs → i < entryCount xs

@@ -1,10 +1,10 @@
 -- A reader's walk from range to range. It stands at a place of the bytes, and what is left from there parses exactly where the whole
 -- does; the size of the range in front is the reader's own number n. The ways out, the next turn and the end are a law each. Over the
 -- width w of a length and the greatest entry length. Assumes nothing.
-use Prim.Native.Nat.{ℕ, zero, suc, _+_, _*_, _-_, _≤_, _<_, max}
+use Prim.Native.Nat.{ℕ, _+_, _*_, _≤_, _<_}
 use mathlib.Core.Bool.{Bool, true, false}
-use mathlib.Core.Path.{_≡_, refl, sym, _∙_, ap}
-use mathlib.Core.List.{List, [], _∷_, _++_, map}
+use mathlib.Core.Path.{_≡_, sym, _∙_, ap}
+use mathlib.Core.List.{List, [], _++_, map}
 use native.Mathlib.Omega.{arith}
 use lib.ListN.{length, take, drop, length-take, length-drop}
 use lib.Seq.{take-all, take-take, drop-drop}
@@ -12,7 +12,7 @@ use Rattle.laws.specs.Choice.{also}
 use Rattle.laws.specs.Part.{drop-end}
 use Rattle.laws.specs.Fold.{every}
 use Rattle.laws.specs.Cut.{flat}
-use Rattle.range.specs.Form.{Entry, BlockSize, fromLow, blockCount, entriesAt, parsesAt, rangeSize, rangesWithin, ranges, allParseAt, allEntriesAt}
+use Rattle.range.specs.Form.{BlockSize, fromLow, blockCount, entriesAt, parsesAt, rangeSize, rangesWithin, ranges, allParseAt, allEntriesAt}
 use Rattle.range.specs.Shape.{parses-part}
 use Rattle.range.specs.Ranges.{ranges-step}
 
