@@ -5,3 +5,4 @@ pub mod Shape
 pub mod Round
 pub mod Ranges
 pub mod Walk
+pub mod Runs
