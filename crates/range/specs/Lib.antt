@@ -6,3 +6,4 @@ pub mod Round
 pub mod Ranges
 pub mod Walk
 pub mod Runs
+pub mod Memory
