@@ -7,3 +7,4 @@ pub mod Ranges
 pub mod Walk
 pub mod Runs
 pub mod Memory
+pub mod BrewDay
