@@ -119,7 +119,7 @@ pub record Good (most : ℕ) (es : List Entry) : Type 0 where
 abbrev pub rangeSize : List ℕ → ℕ
 rangeSize xs = max 1 (blockCount xs) * BlockSize
 
--- bytes as ranges one after another, to the last byte; there are no more than k of them
+-- bytes as ranges one after another, to the last byte: at most k of them, and as each has a byte, `ranges` leaves none out (flat-ranges)
 unfoldable pub rangesWithin : ℕ → List ℕ → List (List ℕ)
 rangesWithin zero xs = []
 rangesWithin (suc k) [] = []
