@@ -63,6 +63,10 @@ module _ {ℓ} {A : Type ℓ} where
       let e : a + (n - a) ≡ n = omega arith in
       rw (← e) (rw (drop-take a (n - a) xs) (take-take k (n - a) (drop a xs) (omega arith)))
 
+  -- a part and what stands behind it
+  pub part-then : (xs : List A) (a k : ℕ) → take k (drop a xs) ++ drop (a + k) xs ≡ drop a xs
+  part-then xs a k = rw (← (drop-drop k a xs)) (take-append-drop k (drop a xs))
+
   -- a list is its front, a part and the rest
   pub three-parts : (xs : List A) (a k : ℕ) → take a xs ++ take k (drop a xs) ++ drop (a + k) xs ≡ xs
   three-parts xs a k = rw (← (take-add a k xs)) (take-append-drop (a + k) xs)
