@@ -1,0 +1,23 @@
+// The answers: a value, or the number of the question that was answered no.
+
+// What bytes say of themselves, taken as a range.
+pub enum Contents {
+    Says {
+        blocks: usize,
+        entries: usize,
+        bytes: usize,
+    },
+    Refused(u8),
+}
+
+// How many entries, and how many bytes they have together.
+pub enum Scanned {
+    Total { entries: u64, bytes: u64 },
+    Refused(u8),
+}
+
+// How many entries.
+pub enum Counted {
+    Entries(u64),
+    Refused(u8),
+}
