@@ -11,17 +11,12 @@ use Rattle.laws.specs.Choice.{ruin}
 use Rattle.laws.specs.Fold.{sum}
 use Rattle.laws.specs.Cut.{lengths}
 use Rattle.range.specs.Form.{Entry}
-use Rattle.reader.specs.declared.answer.Contents.{Contents}
-use Rattle.reader.specs.declared.answer.Contents.the-variants as contents
 use Rattle.reader.specs.declared.answer.Scanned.{Scanned}
 use Rattle.reader.specs.declared.answer.Scanned.the-variants as scan
 use Rattle.reader.specs.declared.answer.Counted.{Counted}
 use Rattle.reader.specs.declared.answer.Counted.the-variants as count
 
 -- from the number and the value to the case
-abbrev pub said : ℕ → ℕ → ℕ → ℕ → Contents
-said q blocks entries bytes = cond (eqb q 0) (contents.Says blocks entries bytes) (contents.Refused q)
-
 -- of entries: how many there are, and their bytes together
 abbrev pub scanned : ℕ → List Entry → Scanned
 scanned q es = cond (eqb q 0) (scan.Total (length es) (sum (lengths es))) (scan.Refused q)

@@ -1,13 +1,10 @@
-// The answers: a value, or the number of the question that was answered no.
+// The contents of a range, and the answers: a value, or the number of the question that was answered no.
 
-// What bytes say of themselves, taken as a range.
-pub enum Contents {
-    Says {
-        blocks: usize,
-        entries: usize,
-        bytes: usize,
-    },
-    Refused(u8),
+// What bytes say of themselves, taken as a range: so many blocks, so many entries, so many bytes of bodies.
+pub struct Contents {
+    pub blocks: usize,
+    pub entries: usize,
+    pub bytes: usize,
 }
 
 // How many entries, and how many bytes they have together.

@@ -18,21 +18,29 @@ ghost use Rattle.range.specs.Form.{entries, parses};
 ghost use Rattle.reader.specs.Answer.{counted, scanned};
 ghost use Rattle.reader.specs.Range.{contentsOf, countsOk};
 
-// What the bytes say of themselves. A 7 where head and lengths aren't all there.
+// What the bytes say of themselves; all 0 where head and lengths aren't all there.
 pub fn contents(s: &[u8]) -> Contents
     ensures { λ r. ⌜ r ≡ contentsOf (now (s .entry)) ⌝ }
 {
     if s.len() < HEAD_SIZE {
-        return Contents::Refused(7);
+        return Contents {
+            blocks: 0,
+            entries: 0,
+            bytes: 0,
+        };
     }
     let entries = entry_count(s);
     let bodies = HEAD_SIZE + entries;
     if s.len() < bodies {
-        return Contents::Refused(7);
+        return Contents {
+            blocks: 0,
+            entries: 0,
+            bytes: 0,
+        };
     }
     let blocks = block_count(s);
     let bytes = total(&s[HEAD_SIZE..bodies]);
-    Contents::Says {
+    Contents {
         blocks,
         entries,
         bytes,
@@ -40,17 +48,17 @@ pub fn contents(s: &[u8]) -> Contents
 }
 
 // Are the counts those of a range: from 1 to 1,024 entries, and no block more than is needed?
-fn counts_ok(blocks: usize, entries: usize, bytes: usize) -> bool
-    requires { ⌜ (entries < 65536) × (bytes < 16777216) ⌝ }
-    ensures { λ r. ⌜ r ≡ countsOk blocks entries bytes ⌝ }
+fn counts_ok(c: Contents) -> bool
+    requires { ⌜ (c .entries < 65536) × (c .bytes < 16777216) ⌝ }
+    ensures { λ r. ⌜ r ≡ countsOk c ⌝ }
 {
-    if entries < 1 {
+    if c.entries < 1 {
         return false;
     }
-    if MOST_ENTRIES < entries {
+    if MOST_ENTRIES < c.entries {
         return false;
     }
-    if blocks != (HEAD_SIZE + entries + bytes + (BLOCK_SIZE - 1)) / BLOCK_SIZE {
+    if c.blocks != (HEAD_SIZE + c.entries + c.bytes + (BLOCK_SIZE - 1)) / BLOCK_SIZE {
         return false;
     }
     true
@@ -61,25 +69,17 @@ pub fn scan_range(s: &[u8]) -> Scanned
     ensures { λ r. ⌜ r ≡ scanned (ask 7 (parses (now (s .entry)))) (entries (now (s .entry))) ⌝ }
 {
     let c = contents(s);
-    let Contents::Says {
-        blocks,
-        entries,
-        bytes,
-    } = c
-    else {
-        return Scanned::Refused(7);
-    };
-    if s.len() != blocks * BLOCK_SIZE {
+    if s.len() != c.blocks * BLOCK_SIZE {
         return Scanned::Refused(7);
     }
-    if counts_ok(blocks, entries, bytes) {
-        let bodies = HEAD_SIZE + entries;
-        let end = bodies + bytes;
+    if counts_ok(c) {
+        let bodies = HEAD_SIZE + c.entries;
+        let end = bodies + c.bytes;
         if lengths_ok(&s[HEAD_SIZE..bodies]) {
             if zeros(&s[end..]) {
                 return Scanned::Total {
-                    entries: entries as u64,
-                    bytes: bytes as u64,
+                    entries: c.entries as u64,
+                    bytes: c.bytes as u64,
                 };
             }
         }
