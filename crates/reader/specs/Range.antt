@@ -90,10 +90,10 @@ module _ (xs : List ℕ) where
       })
       (λ l. record { few-blocks = omega arith; few-entries = omega arith; few-bytes = omega arith })
 
-  pub contents-said : 1 ≤ contentsOf xs .entries → Said xs (contentsOf xs)
+  pub contents-said : 1 ≤ contentsOf xs .blocks + contentsOf xs .entries → Said xs (contentsOf xs)
   unfolding contentsOf
   contents-said =
-      by-leb (λ (c : Contents). 1 ≤ c .entries → Said xs c) (HeadSize + entryCount xs * LengthWidth) (length xs) (said xs) nothing
+      by-leb (λ (c : Contents). 1 ≤ c .blocks + c .entries → Said xs c) (HeadSize + entryCount xs * LengthWidth) (length xs) (said xs) nothing
       (λ l h. record { blocks = refl; count = refl; bytes = refl; within = omega arith })
       (λ l h. absurd (omega arith))
 
@@ -166,7 +166,7 @@ module _ (xs : List ℕ) (c : Contents) (hc : c ≡ contentsOf xs) where
 
   module _ (k : countsOk c ≡ true) where
     pub scan-said : Said xs c
-    scan-said = let f = counts-facts c k in rw hc (contents-said xs (rw hc at (f .any)))
+    scan-said = let a : 1 ≤ contentsOf xs .entries = rw hc at (counts-facts c k .any) in rw hc (contents-said xs (omega arith))
 
     module _ (q : Bool) (hq : q ≡ every (okLength MostEntryLength) (take (HeadSize + c .entries - HeadSize) (drop HeadSize xs))) where
       each : q ≡ every (okLength MostEntryLength) (lengthsAt LengthWidth xs)
