@@ -61,6 +61,19 @@ unfolding also
 also-both true b p q = q
 also-both false b p q = p
 
+pub also-false : (a : Bool) → also a false ≡ false
+unfolding also
+also-false true = refl
+also-false false = refl
+
+pub false-also : (b : Bool) → also false b ≡ false
+unfolding also
+false-also b = refl
+
+pub true-also : (b : Bool) → also true b ≡ b
+unfolding also
+true-also b = refl
+
 -- a disjunction
 pub either-left : (a b : Bool) → a ≡ true → either a b ≡ true
 unfolding either
