@@ -9,10 +9,10 @@ use mathlib.Core.Option.{Option, none, some}
 use mathlib.Core.Logic.{_⊎_, inl, inr, ⊎-elim, _↔_}
 use native.Mathlib.Omega.{arith}
 use lib.Dec.{leb, ltb, eqb}
-use borrow.Author.Tests.{lt-ltb, le-ltb, le-leb, lt-leb, eq-eqb, ne-eqb}
+use borrow.Author.Tests.{lt-ltb, le-ltb, le-leb, lt-leb, eq-eqb, ne-eqb, leb-true}
 use lib.ListN.{length, take, drop, getD, length-map, List·getD-map}
 use lib.Seq.{ext-getD, take-all}
-use Rattle.laws.specs.Choice.{also, also-both, also-false, false-also, true-also, by-leb, by-ltb, by-eqb, split-le, split-bool, also-left, also-right}
+use Rattle.laws.specs.Choice.{also, also-both, also-false, false-also, true-also, by-leb, by-ltb, by-eqb, split-le, split-bool, also-left, also-right, either-cases}
 use Rattle.laws.specs.Ring.{wrap, off, by-wrap, by-off, wrap-below, wrap-past, wrap-in, wrap-add, wrap-off, off-wrap, off-in, around, spliceAround, length-around, getD-around, getD-spliceAround, length-spliceAround, around-straight, around-past, around-here, around-elsewhere, around-append, around-drop, around-none}
 use Rattle.layout.specs.declared.geometry.Geometry.{Geometry}
 use Rattle.layout.specs.declared.location.Location.{Location}
@@ -242,3 +242,39 @@ module _ {ℓ} {A : Type ℓ} (g : Geometry) (s : List A) (hs : length s ≡ g .
           (record { start-in = f .start-in; len-in = omega arith })
           (next-start-wrap g (interval (v .start) (g .blocks - v .start)) ∙ ap (wrap (g .blocks)) z ∙ wrap-past (g .blocks) (g .blocks) (omega arith) ∙ n)
           (omega arith)
+
+-- the interval of a journal location is contiguous, and gives the location back
+module _ (g : Geometry) (loc : Location) (f : ValidJournalLocation g loc) where
+  pub of-location-contiguous : ContiguousJournalInterval g (JournalIntervalOfLocation loc)
+  of-location-contiguous = omega arith
+
+  pub of-location-back : JournalRangeLocation g (JournalIntervalOfLocation loc .start) (JournalIntervalOfLocation loc .len) ≡ loc
+  of-location-back =
+      let a : 2 * 4096 + (loc .addr - 2 * 4096) / 4096 * 4096 ≡ loc .addr = omega arith in
+      let l : loc .len / 4096 * 4096 ≡ loc .len = omega arith in
+      λ i. record { addr = a i; len = l i }
+
+-- a block of a subinterval is a block of the interval
+pub subinterval-in : (g : Geometry) (a b : JournalInterval) → ValidJournalInterval g a → ValidJournalInterval g b → subinterval g a b ≡ true → (i : ℕ)
+    → InCyclicRange g i a → InCyclicRange g i b
+unfolding subinterval
+subinterval-in g a b fa fb e i =
+    ⊎-elim
+    (λ h.
+    let p = leb-true (b .start) (a .start) (also-left _ _ h) in
+    let q = leb-true (a .start + a .len) (b .start + b .len) (also-right _ _ h) in
+    ⊎-elim (λ r. inl (omega arith)) (λ r. inr (omega arith)))
+    (λ h.
+    let p = leb-true (b .start) (a .start + g .blocks) (also-left _ _ h) in
+    let q = leb-true (a .start + g .blocks + a .len) (b .start + b .len) (also-right _ _ h) in
+    ⊎-elim (λ r. inr (omega arith)) (λ r. absurd (omega arith)))
+    (either-cases _ _ e)
+
+-- a block of the interval whose start was moved on is a block of the old one
+pub moved-in : (g : Geometry) (v : JournalInterval) (k : ℕ) → ValidJournalInterval g v → k ≤ v .len → (i : ℕ) → i < g .blocks
+    → InCyclicRange g i (interval (JournalPosAdd g (v .start) k) (v .len - k)) → InCyclicRange g i v
+unfolding JournalPosAdd
+moved-in g v k f h i l =
+    by-leb (λ (p : ℕ). InCyclicRange g i (interval p (v .len - k)) → InCyclicRange g i v) (g .blocks) (v .start + k) (v .start + k - g .blocks) (v .start + k)
+    (λ m. ⊎-elim (λ r. inr (omega arith)) (λ r. absurd (omega arith)))
+    (λ m. ⊎-elim (λ r. inl (omega arith)) (λ r. inr (omega arith)))

@@ -61,6 +61,13 @@ unfolding also
 also-both true b p q = q
 also-both false b p q = p
 
+pub also-comm : (a b : Bool) → also a b ≡ also b a
+unfolding also
+also-comm true true = refl
+also-comm true false = refl
+also-comm false true = refl
+also-comm false false = refl
+
 pub also-false : (a : Bool) → also a false ≡ false
 unfolding also
 also-false true = refl
