@@ -401,6 +401,22 @@ module _ {ℓ} {A : Type ℓ} where
       ∙ take-append-add (drop at s) (take at s) (at + n - length s)
       ∙ ap (λ (z : List A). drop at s ++ z) (take-take (at + n - length s) at s (omega arith))
 
+  -- in one part or two: up to the end, and the rest from the front
+  pub around-parts : (s : List A) (at n : ℕ) → at ≤ length s → n ≤ length s
+      → around s at n ≡ take (min n (length s - at)) (drop at s) ++ take (n - min n (length s - at)) s
+  around-parts s at n h k =
+      split-le n (length s - at)
+      (λ l.
+      let e : min n (length s - at) ≡ n = omega arith in
+      let z : n - n ≡ 0 = omega arith in
+      rw (e, z) (around-straight s at n (omega arith) ∙ sym (append-nil (take n (drop at s)))))
+      (λ l.
+      let e : min n (length s - at) ≡ length s - at = omega arith in
+      let z : n - (length s - at) ≡ at + n - length s = omega arith in
+      rw (e, z)
+      (around-past s at n h (omega arith) k
+      ∙ ap (λ (x : List A). x ++ take (at + n - length s) s) (sym (take-all (length s - at) (drop at s) (simp length-drop (omega arith))))))
+
   pub around-none : (s : List A) (at : ℕ) → around s at 0 ≡ []
   unfolding around
   around-none s at = refl
