@@ -114,3 +114,19 @@ module _ {ℓ κ} {A : Type ℓ} {B : Type κ} (f : A → B) where
   map-drop zero xs = refl
   map-drop (suc k) [] = refl
   map-drop (suc k) (x ∷ xs) = map-drop k xs
+
+-- the list of n elements that a function gives
+unfoldable pub tab {ℓ} : {A : Type ℓ} → ℕ → (ℕ → A) → List A
+tab zero f = []
+tab (suc n) f = f 0 ∷ tab n (λ i. f (suc i))
+
+pub length-tab {ℓ} : {A : Type ℓ} (n : ℕ) (f : ℕ → A) → length (tab n f) ≡ n
+unfolding tab
+length-tab zero f = refl
+length-tab (suc n) f = ap suc (length-tab n (λ i. f (suc i)))
+
+pub getD-tab {ℓ} : {A : Type ℓ} (n : ℕ) (f : ℕ → A) (i : ℕ) (d : A) → i < n → getD (tab n f) i d ≡ f i
+unfolding tab
+getD-tab zero f i d h = absurd (omega arith)
+getD-tab (suc n) f zero d h = refl
+getD-tab (suc n) f (suc i) d h = getD-tab n (λ j. f (suc j)) i d (omega arith)

@@ -1,6 +1,6 @@
 -- A list as a ring of S elements, S its length. A position is below S; an offset from a position is counted going round. Every law holds
 -- for every S: facts go by index, and each conditional has its two cases. Assumes nothing.
-use Prim.Native.Nat.{ℕ, zero, suc, _+_, _-_, _≤_, _<_, min}
+use Prim.Native.Nat.{ℕ, zero, suc, _+_, _-_, _*_, _≤_, _<_, min}
 use mathlib.Core.Bool.{Bool, true, false, cond}
 use mathlib.Core.Path.{_≡_, refl, sym, _∙_, ap, subst}
 use mathlib.Core.List.{List, [], _∷_, _++_, append-assoc, append-nil}
@@ -95,6 +95,19 @@ off-shift S s a i h ha hi =
     by-wrap (λ (v : ℕ). off S (s + a) v ≡ i + S - a) S (s + i)
     (λ n. by-off (λ (o : ℕ). o ≡ i + S - a) S (s + a) (s + i - S) (λ q. omega arith) (λ q. omega arith))
     (λ n. by-off (λ (o : ℕ). o ≡ i + S - a) S (s + a) (s + i) (λ q. omega arith) (λ q. omega arith))))
+
+-- a ring of blocks of 4,096 elements: an element's offset and position go by its block's
+pub off-scaled : (S p i r : ℕ) → p < S → i < S → r < 4096 → off (S * 4096) (p * 4096) (i * 4096 + r) ≡ off S p i * 4096 + r
+off-scaled S p i r h k l =
+    by-off (λ (o : ℕ). off (S * 4096) (p * 4096) (i * 4096 + r) ≡ o * 4096 + r) S p i
+    (λ m. by-off (λ (o : ℕ). o ≡ (i - p) * 4096 + r) (S * 4096) (p * 4096) (i * 4096 + r) (λ n. omega arith) (λ n. absurd (omega arith)))
+    (λ m. by-off (λ (o : ℕ). o ≡ (i + S - p) * 4096 + r) (S * 4096) (p * 4096) (i * 4096 + r) (λ n. absurd (omega arith)) (λ n. omega arith))
+
+pub wrap-scaled : (S x r : ℕ) → r < 4096 → wrap (S * 4096) (x * 4096 + r) ≡ wrap S x * 4096 + r
+wrap-scaled S x r l =
+    by-wrap (λ (w : ℕ). wrap (S * 4096) (x * 4096 + r) ≡ w * 4096 + r) S x
+    (λ m. by-wrap (λ (w : ℕ). w ≡ (x - S) * 4096 + r) (S * 4096) (x * 4096 + r) (λ n. omega arith) (λ n. absurd (omega arith)))
+    (λ m. by-wrap (λ (w : ℕ). w ≡ x * 4096 + r) (S * 4096) (x * 4096 + r) (λ n. absurd (omega arith)) (λ n. refl))
 
 -- the n elements from `at` on, going round
 unfoldable pub around {ℓ} : {A : Type ℓ} → List A → ℕ → ℕ → List A
