@@ -1,0 +1,5 @@
+pub mod Sets
+pub mod Codec
+pub mod JournalDisk
+pub mod JournalCache
+pub mod JournalSystem
