@@ -3,3 +3,5 @@ pub mod Codec
 pub mod JournalDisk
 pub mod JournalCache
 pub mod JournalSystem
+pub mod Limits
+pub mod Departures
