@@ -5,3 +5,5 @@ pub mod JournalCache
 pub mod JournalSystem
 pub mod Limits
 pub mod Departures
+pub mod Unique
+pub mod Answers
