@@ -7,3 +7,4 @@ pub mod Limits
 pub mod Departures
 pub mod Unique
 pub mod Answers
+pub mod Open

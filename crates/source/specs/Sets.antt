@@ -195,5 +195,8 @@ distinct-within (x ∷ xs) ks d f =
 pub distinct-few : (n : ℕ) (xs : List ℕ) → Distinct xs → AtMost n (idsOf xs) → length xs ≤ n
 distinct-few n xs d m = let h = distinct-within xs (m .listed) d (m .all) in let l = m .few in omega arith
 
+pub none-few : (n : ℕ) → AtMost n no-ids
+none-few n = record { listed = []; few = omega arith; all = λ i e. false-true e }
+
 pub listed-few : (n : ℕ) (xs : List ℕ) → length xs ≤ n → AtMost n (idsOf xs)
 listed-few n xs h = record { listed = xs; few = h; all = λ i e. e }
