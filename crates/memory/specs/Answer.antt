@@ -5,7 +5,6 @@ use mathlib.Core.Path.{_≡_, refl, sym}
 use native.Mathlib.Omega.{arith}
 use lib.Dec.{eqb}
 use borrow.Author.Tests.{eq-eqb, eqb-true, eqb-false}
-use Rattle.laws.specs.Choice.{unless, unless-kept}
 use Rattle.memory.specs.declared.count.Count.{Count}
 use Rattle.memory.specs.declared.count.Counted.{Counted}
 use Rattle.memory.specs.declared.count.Counted.the-variants as answer

@@ -5,3 +5,5 @@ pub mod Pending
 pub mod Replay
 pub mod PendingLaws
 pub mod ReplayLaws
+pub mod PendingAfter
+pub mod ReplayAfter

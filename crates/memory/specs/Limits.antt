@@ -1,13 +1,14 @@
 -- The limits of pending memory, and question 1 of what is lent for it.
-use Prim.Native.Nat.{ℕ, _≤_}
-use mathlib.Core.Bool.{Bool, true}
-use mathlib.Core.Path.{_≡_}
+use Prim.Native.Nat.{ℕ, _≤_, _<_}
+use mathlib.Core.Bool.{Bool}
+use mathlib.Core.Path.{_≡_, sym}
 use native.Mathlib.Omega.{arith}
 use lib.Dec.{leb, eqb}
-use borrow.Author.Tests.{leb-true, le-leb, eqb-true, eq-eqb}
-use Rattle.laws.specs.Choice.{also, ask, also-left, also-right, also-both, ask-yes, ask-holds}
+use borrow.Author.Tests.{leb-true, le-leb, lt-leb, eqb-true, eq-eqb}
+use Rattle.laws.specs.Choice.{also, ask, also-left, also-right, also-both, ask-yes, ask-holds, ask-fails}
 use Rattle.range.specs.Form.{MostEntries}
 use Rattle.memory.specs.declared.limits.Limits.{Limits}
+use Rattle.memory.specs.declared.count.Count.{Count}
 
 abbrev pub MostBytes : ℕ
 MostBytes = 65536
@@ -26,6 +27,10 @@ pendingLent l bytes lens =
 
 unfoldable pub askPendingLent : Limits → ℕ → ℕ → ℕ
 askPendingLent l bytes lens = ask 1 (pendingLent l bytes lens)
+
+-- question 8: so much fits
+unfoldable pub askRoom : Limits → Count → ℕ
+askRoom l c = ask 8 (also (leb (c .entries) (l .entries)) (leb (c .bytes) (l .bytes)))
 
 pub record PendingLent (l : Limits) (bytes lens : ℕ) : Type 0 where
   pub few : l .entries ≤ MostEntries
@@ -54,3 +59,23 @@ asked-lent l bytes lens f =
     (also-both _ _ (le-leb (l .entries) MostEntries (f .few))
     (also-both _ _ (le-leb (l .bytes) MostBytes (f .small))
     (also-both _ _ (eq-eqb bytes (l .bytes) (f .bytes-lent)) (eq-eqb lens (l .entries) (f .lens-lent)))))
+
+-- the three ways of question 8
+module _ (l : Limits) (c : Count) where
+  pub room-entries : l .entries < c .entries → 8 ≡ askRoom l c
+  unfolding askRoom also
+  room-entries h = sym (ask-fails 8 _ (simp (lt-leb (c .entries) (l .entries) h)))
+
+  pub room-bytes : c .entries ≤ l .entries → l .bytes < c .bytes → 8 ≡ askRoom l c
+  unfolding askRoom also
+  room-bytes h k = sym (ask-fails 8 _ (simp (le-leb (c .entries) (l .entries) h, lt-leb (c .bytes) (l .bytes) k)))
+
+  pub room-yes : c .entries ≤ l .entries → c .bytes ≤ l .bytes → 0 ≡ askRoom l c
+  unfolding askRoom
+  room-yes h k = sym (ask-holds 8 _ (also-both _ _ (le-leb (c .entries) (l .entries) h) (le-leb (c .bytes) (l .bytes) k)))
+
+  pub room-asked : askRoom l c ≡ 0 → (c .entries ≤ l .entries) × (c .bytes ≤ l .bytes)
+  unfolding askRoom
+  room-asked q =
+      let fits = ask-yes 8 _ (λ (z : _≡_ {A = ℕ} 8 0). omega arith) q in
+      (leb-true (c .entries) (l .entries) (also-left _ _ fits), leb-true (c .bytes) (l .bytes) (also-right _ _ fits))

@@ -1,15 +1,14 @@
 -- Pending memory: the questions of its steps, what each step leaves in lent memory, and its answer.
 use Prim.Native.Nat.{ℕ, _+_, _-_}
-use mathlib.Core.Bool.{Bool}
 use lib.ListN.{length, take, drop}
 use lib.Dec.{leb}
-use Rattle.laws.specs.Choice.{also, ask, andThen, unless}
+use Rattle.laws.specs.Choice.{ask, andThen, unless}
 use Rattle.laws.specs.Splice.{splice}
 use Rattle.range.specs.Memory.{total}
 use Rattle.memory.specs.declared.limits.Limits.{Limits}
 use Rattle.memory.specs.declared.count.Count.{Count}
 use Rattle.memory.specs.declared.count.Counted.{Counted}
-use Rattle.memory.specs.Limits.{askPendingLent}
+use Rattle.memory.specs.Limits.{askPendingLent, askRoom}
 use Rattle.memory.specs.Answer.{counted}
 use Rattle.memory.specs.Entries.{Memory, bytesOf, entriesOk, askGiven}
 
@@ -19,19 +18,15 @@ askPending l m =
     andThen (askPendingLent l (length (m .bytes)) (length (m .lens)))
     (ask 2 (entriesOk (l .entries) (l .bytes) (m .lens) (m .count)))
 
--- question 8: both fit together
-unfoldable pub askRoom : Limits → Memory → Memory → ℕ
-askRoom l m e =
-    ask 8
-    (also (leb (m .count + e .count) (l .entries))
-    (leb (bytesOf m + bytesOf e) (l .bytes)))
-
 -- entries e come behind those of m
+abbrev pub both : Memory → Memory → Count
+both m e = record { entries = m .count + e .count; bytes = bytesOf m + bytesOf e }
+
 unfoldable pub askAppend : Limits → Memory → Memory → ℕ
 askAppend l m e =
     andThen (askPending l m)
     (andThen (askGiven e)
-    (askRoom l m e))
+    (askRoom l (both m e)))
 
 abbrev pub appended : Memory → Memory → Memory
 appended m e =
@@ -45,7 +40,7 @@ unfoldable pub appendLent : Limits → Memory → Memory → Memory
 appendLent l m e = unless (askAppend l m e) m (appended m e)
 
 unfoldable pub appendAnswer : Limits → Memory → Memory → Counted
-appendAnswer l m e = counted (askAppend l m e) (record { entries = m .count + e .count; bytes = bytesOf m + bytesOf e })
+appendAnswer l m e = counted (askAppend l m e) (both m e)
 
 -- the first k entries of m leave
 unfoldable pub askTakeFront : Limits → Memory → ℕ → ℕ
@@ -59,8 +54,11 @@ frontTaken m k =
       count = m .count - k;
     }
 
+abbrev pub others : Memory → ℕ → Count
+others m k = record { entries = m .count - k; bytes = bytesOf m - total (m .lens) k }
+
 unfoldable pub takeFrontLent : Limits → Memory → ℕ → Memory
 takeFrontLent l m k = unless (askTakeFront l m k) m (frontTaken m k)
 
 unfoldable pub takeFrontAnswer : Limits → Memory → ℕ → Counted
-takeFrontAnswer l m k = counted (askTakeFront l m k) (record { entries = m .count - k; bytes = bytesOf m - total (m .lens) k })
+takeFrontAnswer l m k = counted (askTakeFront l m k) (others m k)

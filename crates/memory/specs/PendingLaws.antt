@@ -1,25 +1,22 @@
 -- Laws of pending memory: what a yes tells, what a step leaves in lent memory and beside what it counts, and the entries after it.
 use Prim.Native.Nat.{ℕ, _+_, _-_, _≤_}
-use mathlib.Core.Bool.{Bool, true}
-use mathlib.Core.Path.{_≡_, refl, sym, _∙_, ap}
-use mathlib.Core.List.{List, _++_}
+use mathlib.Core.Path.{_≡_, sym, _∙_, ap}
+use mathlib.Core.List.{List}
 use native.Mathlib.Nat.{sub-zero}
 use native.Mathlib.Omega.{arith}
 use lib.ListN.{length, take, drop}
 use lib.Seq.{length-take-le}
-use lib.Dec.{leb}
 use borrow.Author.Tests.{leb-true, le-leb}
-use Rattle.laws.specs.Choice.{also, ask, andThen, unless, also-left, also-right, also-both, ask-yes, ask-holds, andThen-left, andThen-right, andThen-both, unless-kept, unless-done}
+use Rattle.laws.specs.Choice.{ask-yes, ask-holds, andThen-left, andThen-right, andThen-both, unless-kept, unless-done}
 use Rattle.laws.specs.Splice.{splice, clipped, clipped-fits}
-use Rattle.range.specs.Memory.{view, total, total-split}
+use Rattle.range.specs.Memory.{total, total-split}
 use Rattle.memory.specs.declared.limits.Limits.{Limits}
 use Rattle.memory.specs.declared.count.Count.{Count}
-use Rattle.memory.specs.declared.count.Counted.{Counted}
 use Rattle.memory.specs.declared.count.Counted.the-variants as answer
-use Rattle.memory.specs.Limits.{PendingLent, askPendingLent, lent-asked, asked-lent}
-use Rattle.memory.specs.Answer.{counted, counted-now, counted-refused, counted-done}
-use Rattle.memory.specs.Entries.{Memory, bytesOf, entriesOf, entriesOk, Entries, entries-facts, facts-entries, Countable, askGiven, Given, given-asked, asked-given, given-small}
-use Rattle.memory.specs.Pending.{askPending, askRoom, askAppend, appended, appendLent, appendAnswer, askTakeFront, frontTaken, takeFrontLent, takeFrontAnswer}
+use Rattle.memory.specs.Limits.{PendingLent, lent-asked, asked-lent, room-asked, room-yes}
+use Rattle.memory.specs.Answer.{counted-now, counted-refused, counted-done}
+use Rattle.memory.specs.Entries.{Memory, bytesOf, Entries, entries-facts, facts-entries, Countable, askGiven, Given, given-asked, asked-given, given-small}
+use Rattle.memory.specs.Pending.{askPending, askAppend, both, appended, appendLent, appendAnswer, askTakeFront, frontTaken, takeFrontLent, takeFrontAnswer}
 
 -- pending memory that questions 1 and 2 accept
 pub record Pending (l : Limits) (m : Memory) : Type 0 where
@@ -74,23 +71,22 @@ pub record Appends (l : Limits) (m e : Memory) : Type 0 where
   pub bytes-fit : bytesOf m + bytesOf e ≤ l .bytes
 
 pub append-asked : (l : Limits) (m e : Memory) → askAppend l m e ≡ 0 → Appends l m e
-unfolding askAppend askRoom
+unfolding askAppend
 append-asked l m e q =
     let q4 = andThen-right _ _ q in
-    let fits = ask-yes 8 _ (λ (z : _≡_ {A = ℕ} 8 0). omega arith) (andThen-right _ _ q4) in
+    let fits = room-asked l (both m e) (andThen-right _ _ q4) in
     record {
       pending = pending-asked l m (andThen-left _ _ q);
       given = given-asked e (andThen-left _ _ q4);
-      entries-fit = leb-true (m .count + e .count) (l .entries) (also-left _ _ fits);
-      bytes-fit = leb-true (bytesOf m + bytesOf e) (l .bytes) (also-right _ _ fits);
+      entries-fit = fits .0;
+      bytes-fit = fits .1;
     }
 
 pub asked-append : (l : Limits) (m e : Memory) → Appends l m e → askAppend l m e ≡ 0
-unfolding askAppend askRoom
+unfolding askAppend
 asked-append l m e a =
     andThen-both _ _ (asked-pending l m (a .pending))
-    (andThen-both _ _ (asked-given e (a .given))
-    (ask-holds 8 _ (also-both _ _ (le-leb (m .count + e .count) (l .entries) (a .entries-fit)) (le-leb (bytesOf m + bytesOf e) (l .bytes) (a .bytes-fit)))))
+    (andThen-both _ _ (asked-given e (a .given)) (sym (room-yes l (both m e) (a .entries-fit) (a .bytes-fit))))
 
 module _ (l : Limits) (m e : Memory) where
   -- the answer's two cases
@@ -98,9 +94,13 @@ module _ (l : Limits) (m e : Memory) where
   unfolding appendAnswer
   append-now c h = let f = counted-now _ _ _ h in (f .0, ap (λ (d : Count). d .entries) (f .1), ap (λ (d : Count). d .bytes) (f .1))
 
+  pub append-refused : (askAppend l m e ≡ 0 → ⊥) → appendLent l m e ≡ m
+  unfolding appendLent
+  append-refused h = unless-kept _ _ _ h
+
   pub append-kept : (r : ℕ) → answer.Refused r ≡ appendAnswer l m e → appendLent l m e ≡ m
-  unfolding appendAnswer appendLent
-  append-kept r h = unless-kept _ _ _ (counted-refused _ _ _ h .0)
+  unfolding appendAnswer
+  append-kept r h = append-refused (counted-refused _ _ _ h .0)
 
   pub append-done : askAppend l m e ≡ 0 → appendLent l m e ≡ appended m e
   unfolding appendLent
@@ -161,9 +161,9 @@ module _ (l : Limits) (m : Memory) (k : ℕ) where
   unfolding askTakeFront
   asked-front q h = andThen-both _ _ q (ask-holds 4 _ (le-leb k (m .count) h))
 
-  pub front-kept : (askTakeFront l m k ≡ 0 → ⊥) → takeFrontLent l m k ≡ m
+  pub front-refused : (askTakeFront l m k ≡ 0 → ⊥) → takeFrontLent l m k ≡ m
   unfolding takeFrontLent
-  front-kept h = unless-kept _ _ _ h
+  front-refused h = unless-kept _ _ _ h
 
   pub front-done : askTakeFront l m k ≡ 0 → takeFrontLent l m k ≡ frontTaken m k
   unfolding takeFrontLent
@@ -176,12 +176,16 @@ module _ (l : Limits) (m : Memory) (k : ℕ) where
   front-now held gone q eh eg =
       (λ i. answer.Now (record { entries = m .count - k; bytes = eh i - eg i })) ∙ counted-done _ _ q
 
-  pub front-bytes : (x : List ℕ) (held gone : ℕ) → askTakeFront l m k ≡ 0 → held ≡ bytesOf m → gone ≡ total (m .lens) k
-      → x ≡ splice (m .bytes) 0 (take (held - gone) (drop gone (m .bytes))) → x ≡ takeFrontLent l m k .bytes
-  front-bytes x held gone q eh eg ex =
+  pub front-bytes : (x : List ℕ) (from size : ℕ) → askTakeFront l m k ≡ 0 → from ≡ total (m .lens) k → size ≡ bytesOf m - total (m .lens) k
+      → x ≡ splice (m .bytes) 0 (take size (drop from (m .bytes))) → x ≡ takeFrontLent l m k .bytes
+  front-bytes x from size q ef es ex =
       ex
-      ∙ (λ i. splice (m .bytes) 0 (take (eh i - eg i) (drop (eg i) (m .bytes))))
+      ∙ (λ i. splice (m .bytes) 0 (take (es i) (drop (ef i) (m .bytes))))
       ∙ sym (ap (λ (o : Memory). o .bytes) (front-done q))
 
-  pub front-lens : (x : List ℕ) → askTakeFront l m k ≡ 0 → x ≡ splice (m .lens) 0 (take (m .count - k) (drop k (m .lens))) → x ≡ takeFrontLent l m k .lens
-  front-lens x q ex = ex ∙ sym (ap (λ (o : Memory). o .lens) (front-done q))
+  pub front-lens : (x : List ℕ) (first count : ℕ) → askTakeFront l m k ≡ 0 → first ≡ k → count ≡ m .count - k
+      → x ≡ splice (m .lens) 0 (take count (drop first (m .lens))) → x ≡ takeFrontLent l m k .lens
+  front-lens x first count q ef ec ex =
+      ex
+      ∙ (λ i. splice (m .lens) 0 (take (ec i) (drop (ef i) (m .lens))))
+      ∙ sym (ap (λ (o : Memory). o .lens) (front-done q))

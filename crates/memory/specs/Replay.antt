@@ -1,6 +1,6 @@
 -- Replay memory: N blocks of bytes and as many lengths, of whose entries the first ones are taken. Nothing lent changes.
 use Prim.Native.Nat.{ℕ, _+_, _*_, _-_, _≤_}
-use mathlib.Core.Bool.{Bool, true}
+use mathlib.Core.Bool.{Bool}
 use mathlib.Core.Path.{_≡_}
 use mathlib.Core.List.{List}
 use lib.ListN.{length, take, drop}

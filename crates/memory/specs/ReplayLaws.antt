@@ -1,23 +1,21 @@
 -- Laws of replay memory: what a yes tells, and that the given entries are the next ones exactly where they are a front of what is left.
 use Prim.Native.Nat.{ℕ, _+_, _*_, _-_, _≤_}
-use mathlib.Core.Bool.{Bool, true, false}
-use mathlib.Core.Path.{_≡_, refl, sym, _∙_, ap}
-use mathlib.Core.List.{List, _++_}
-use native.Mathlib.Nat.{sub-zero, add-sub-cancel-left}
+use mathlib.Core.Bool.{Bool, true}
+use mathlib.Core.Path.{_≡_, refl, _∙_, ap}
+use mathlib.Core.List.{List}
+use native.Mathlib.Nat.{sub-zero}
 use native.Mathlib.Omega.{arith}
 use lib.ListN.{length, take, drop}
-use lib.Dec.{leb, eqb}
 use borrow.Author.Tests.{leb-true, le-leb, eqb-true, eq-eqb}
-use Rattle.laws.specs.Choice.{also, ask, andThen, also-left, also-right, also-both, ask-yes, ask-holds, andThen-left, andThen-right, andThen-both}
-use Rattle.laws.specs.Fold.{sum, same, same-is, is-same}
-use Rattle.range.specs.Form.{Entry, BlockSize}
-use Rattle.range.specs.Memory.{view, total, total-split}
+use Rattle.laws.specs.Choice.{also-left, also-right, also-both, ask-yes, ask-holds, andThen-left, andThen-right, andThen-both}
+use Rattle.laws.specs.Fold.{sum, same, same-is}
+use Rattle.range.specs.Form.{BlockSize}
+use Rattle.range.specs.Memory.{total, total-split}
 use Rattle.memory.specs.declared.count.Count.{Count}
-use Rattle.memory.specs.declared.count.Counted.{Counted}
 use Rattle.memory.specs.declared.count.Counted.the-variants as answer
-use Rattle.memory.specs.Answer.{counted, counted-done}
-use Rattle.memory.specs.Entries.{Memory, bytesOf, entriesOf, entriesOk, Entries, entries-facts, facts-entries, Countable, askGiven, Given, given-asked, asked-given, given-small, MostReplay}
-use Rattle.memory.specs.Replay.{replayLent, askReplayLent, ReplayLent, takenOk, askReplay, Replay, nextOfReplay, askNext, takenThen, nextAnswer, Compared}
+use Rattle.memory.specs.Answer.{counted-done}
+use Rattle.memory.specs.Entries.{Memory, bytesOf, entries-facts, facts-entries, askGiven, given-asked, given-small, MostReplay}
+use Rattle.memory.specs.Replay.{replayLent, askReplayLent, ReplayLent, takenOk, askReplay, Replay, nextOfReplay, askNext, nextAnswer, Compared}
 use Rattle.memory.specs.PendingLaws.{total-front}
 
 -- question 1

@@ -1,6 +1,7 @@
 // How much pending memory holds: its lent slices have exactly these lengths.
+use super::count::Count;
 ghost use mathlib.Core.Path.{_≡_};
-ghost use Rattle.memory.specs.Limits.{storeLimits, askPendingLent};
+ghost use Rattle.memory.specs.Limits.{storeLimits, askPendingLent, askRoom};
 
 pub struct Limits {
     pub entries: u64,
@@ -37,6 +38,19 @@ impl Limits {
         }
         if lens as u64 != self.entries {
             return 1;
+        }
+        0
+    }
+
+    // Question 8: does so much fit?
+    pub fn ask_room(self, count: Count) -> u8
+        ensures { λ r. ⌜ r ≡ askRoom self count ⌝ }
+    {
+        if self.entries < count.entries {
+            return 8;
+        }
+        if self.bytes < count.bytes {
+            return 8;
         }
         0
     }

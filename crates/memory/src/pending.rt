@@ -50,16 +50,17 @@ pub fn ask_append(
     }
     let held = bytes_of(lens, n);
     let new = bytes_of(sizes, k);
-    if limits.entries < n + k {
-        return Counted::Refused(8);
+    let entries = n + k;
+    let sum = held + new;
+    let after = Count {
+        entries,
+        bytes: sum,
+    };
+    let q8 = limits.ask_room(after);
+    if q8 != 0 {
+        return Counted::Refused(q8);
     }
-    if limits.bytes < held + new {
-        return Counted::Refused(8);
-    }
-    Counted::Now(Count {
-        entries: n + k,
-        bytes: held + new,
-    })
+    Counted::Now(after)
 }
 
 // The first k of the new entries come behind the n pending ones.
@@ -105,14 +106,16 @@ pub fn take_front(limits: Limits, bytes: &mut [u8], lens: &mut [u16], n: u64, k:
     }
     let held = bytes_of(lens, n);
     let gone = bytes_of(lens, k);
-    let from = gone as usize;
-    let size = (held - gone) as usize;
+    let entries = n - k;
+    let rest = held - gone;
     let first = k as usize;
-    let count = (n - k) as usize;
+    let count = entries as usize;
+    let from = gone as usize;
+    let size = rest as usize;
     move_bytes(bytes, from, size);
     move_lengths(lens, first, count);
     Counted::Now(Count {
-        entries: n - k,
-        bytes: held - gone,
+        entries,
+        bytes: rest,
     })
 }

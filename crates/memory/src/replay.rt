@@ -117,9 +117,11 @@ pub fn next_of_replay(
     let next = is_next(bytes, lens, n, taken, bodies, sizes, k);
     if next {
         let new = bytes_of(sizes, k);
+        let entries = taken.entries + k;
+        let sum = taken.bytes + new;
         return Counted::Now(Count {
-            entries: taken.entries + k,
-            bytes: taken.bytes + new,
+            entries,
+            bytes: sum,
         });
     }
     Counted::Refused(6)

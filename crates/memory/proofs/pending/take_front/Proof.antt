@@ -1,5 +1,6 @@
+use Prim.Native.Nat.{_-_}
 use borrow.Author.Needs.{needs}
-use mathlib.Core.Path.{sym, _∙_}
+use mathlib.Core.Path.{refl, sym, _∙_}
 use native.Mathlib.Omega.{arith}
 use Rattle.laws.specs.Choice.{tests, ask, andThen, unless}
 use Rattle.memory.specs.Answer.{counted}
@@ -19,8 +20,7 @@ same-length-2 c = search needs
 
 returns : tie.Need-returns
 unfolding takeFrontAnswer takeFrontLent counted unless askTakeFront andThen
-returns c =
-    (search (tests, ← c .before .ask-pending .ensures), (search (tests, ← c .before .ask-pending .ensures), search (tests, ← c .before .ask-pending .ensures)))
+returns c = (search (tests, ← c .before .ask-pending .ensures), (search (tests, ← c .before .ask-pending .ensures), search (tests, ← c .before .ask-pending .ensures)))
 
 same-length-3 : tie.Need-same-length-3
 same-length-3 c = search needs
@@ -30,8 +30,7 @@ same-length-4 c = search needs
 
 returns-2 : tie.Need-returns-2
 unfolding takeFrontAnswer takeFrontLent counted unless askTakeFront andThen ask
-returns-2 c =
-    (search (tests, ← c .before .before .ask-pending .ensures), (search (tests, ← c .before .before .ask-pending .ensures), search (tests, ← c .before .before .ask-pending .ensures)))
+returns-2 c = (search (tests, ← c .before .before .ask-pending .ensures), (search (tests, ← c .before .before .ask-pending .ensures), search (tests, ← c .before .before .ask-pending .ensures)))
 
 bytes-of-requires : tie.Need-bytes-of-requires
 bytes-of-requires c κs = pending-countable _ _ _ (sym (c .before .before .before .ask-pending .ensures) ∙ c .before .before .if1 .left) (omega arith)
@@ -39,8 +38,8 @@ bytes-of-requires c κs = pending-countable _ _ _ (sym (c .before .before .befor
 bytes-of-requires-2 : tie.Need-bytes-of-requires-2
 bytes-of-requires-2 c κs = pending-countable _ _ _ (sym (c .before .before .before .before .before .ask-pending .ensures) ∙ c .before .before .before .before .if1 .left) (omega arith)
 
-sub-size : tie.Need-sub-size
-sub-size c =
+sub-rest : tie.Need-sub-rest
+sub-rest c =
     let s = c .before .before .before .before .before .before .before .before .before .before .before .args in
     omega (arith, c .bytes-of2 .ensures, c .before .before .bytes-of .ensures, total-front (s .lens .now) (s .k) (s .n) (omega arith))
 
@@ -49,11 +48,6 @@ move-bytes-requires c κs = search needs
 
 move-lengths-requires : tie.Need-move-lengths-requires
 move-lengths-requires c κs = search needs
-
-sub-t28 : tie.Need-sub-t28
-sub-t28 c =
-    let s = c .before .before .before .before .before .before .before .before .before .before .before .before .before .before .before .before .before .before .before .args in
-    omega (arith, c .before .before .before .before .before .before .before .before .bytes-of2 .ensures, c .before .before .before .before .before .before .before .before .before .before .bytes-of .ensures, total-front (s .lens .now) (s .k) (s .n) (omega arith))
 
 same-length-5 : tie.Need-same-length-5
 same-length-5 c = search needs
@@ -67,7 +61,7 @@ returns-3 c =
     let q = asked-front _ _ (s .k) (sym (c .before .before .before .before .before .before .before .before .before .before .before .before .before .before .ask-pending .ensures) ∙ c .before .before .before .before .before .before .before .before .before .before .before .before .before .if1 .left) (omega arith) in
     let held = c .before .before .before .before .before .before .before .before .before .before .bytes-of .ensures in
     let gone = c .before .before .before .before .before .before .before .before .bytes-of2 .ensures in
-    (front-now _ _ _ _ _ q held gone, (front-bytes _ _ _ _ _ _ q held gone (c .before .before .before .before .before .before .move-bytes .ensures), front-lens _ _ _ _ q (c .before .before .move-lengths .ensures)))
+    (front-now _ _ _ _ _ q held gone, (front-bytes _ _ _ _ _ _ q gone (λ i. held i - gone i) (c .before .before .before .before .before .before .move-bytes .ensures), front-lens _ _ _ _ _ _ q refl refl (c .before .before .move-lengths .ensures)))
 
 pub take-front-spec : {M : Type 1} → statement M
 take-front-spec =
@@ -82,10 +76,9 @@ take-front-spec =
     returns-2
     bytes-of-requires
     bytes-of-requires-2
-    sub-size
+    sub-rest
     move-bytes-requires
     move-lengths-requires
-    sub-t28
     same-length-5
     same-length-6
     returns-3)

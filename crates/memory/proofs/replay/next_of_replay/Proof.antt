@@ -29,13 +29,13 @@ is-next-requires c κs = compared _ _ _ _ (sym (c .before .before .before .ask-r
 bytes-of-requires : tie.Need-bytes-of-requires
 bytes-of-requires c κs = given-countable _ (sym (c .before .before .before .ask-given .ensures) ∙ c .before .before .if2 .left)
 
-add-t14 : tie.Need-add-t14
-add-t14 c =
+add-entries : tie.Need-add-entries
+add-entries c =
     let small = next-sums _ _ _ _ (sym (c .before .before .before .before .before .before .before .ask-replay .ensures) ∙ c .before .before .before .before .before .before .if1 .left) (sym (c .before .before .before .before .before .ask-given .ensures) ∙ c .before .before .before .before .if2 .left) in
     omega arith
 
-add-t15 : tie.Need-add-t15
-add-t15 c =
+add-sum : tie.Need-add-sum
+add-sum c =
     let small = next-sums _ _ _ _ (sym (c .before .before .before .before .before .before .before .before .ask-replay .ensures) ∙ c .before .before .before .before .before .before .before .if1 .left) (sym (c .before .before .before .before .before .before .ask-given .ensures) ∙ c .before .before .before .before .before .if2 .left) in
     omega (arith, c .before .before .bytes-of .ensures)
 
@@ -59,7 +59,7 @@ next-of-replay-spec =
     returns-2
     is-next-requires
     bytes-of-requires
-    add-t14
-    add-t15
+    add-entries
+    add-sum
     returns-3
     returns-4)
