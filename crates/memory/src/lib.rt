@@ -1,5 +1,5 @@
 // Entries in lent memory: bytes back to back from the front, lengths in order, and a count. The public face:
-//   Limits                    how much pending memory holds; question 1 of its lent lengths
+//   Limits                    how much pending memory holds; question 1 of its lent lengths, question 8
 //   Count, Counted            entries and their bytes; the answer of a step, a count or a refusal number
 //   ask_pending, ask_given    questions 1 and 2 of pending memory, question 4 of entries that a caller brings
 //   ask_append, append        entries come behind the pending ones
