@@ -61,6 +61,26 @@ unfolding also
 also-both true b p q = q
 also-both false b p q = p
 
+pub also-comm : (a b : Bool) → also a b ≡ also b a
+unfolding also
+also-comm true true = refl
+also-comm true false = refl
+also-comm false true = refl
+also-comm false false = refl
+
+pub also-false : (a : Bool) → also a false ≡ false
+unfolding also
+also-false true = refl
+also-false false = refl
+
+pub false-also : (b : Bool) → also false b ≡ false
+unfolding also
+false-also b = refl
+
+pub true-also : (b : Bool) → also true b ≡ b
+unfolding also
+true-also b = refl
+
 -- a disjunction
 pub either-left : (a b : Bool) → a ≡ true → either a b ≡ true
 unfolding either
@@ -131,6 +151,10 @@ unless-kept q old new h = simp (ne-eqb q 0 h)
 pub unless-done {ℓ} : {A : Type ℓ} (q : ℕ) (old new : A) → q ≡ 0 → unless q old new ≡ new
 unfolding unless
 unless-done q old new h = simp (eq-eqb q 0 h)
+
+-- the same for a step that has the refusal in a number of its own
+pub refused-kept {ℓ} : {A : Type ℓ} (r q : ℕ) (old new : A) → r ≡ q → (r ≡ 0 → ⊥) → old ≡ unless q old new
+refused-kept r q old new e h = sym (unless-kept q old new (λ z. h (e ∙ z)))
 
 -- the two cases of a test: a fact about the chosen value follows from one about each
 pub by-leb {ℓ κ} : {A : Type ℓ} (P : A → Type κ) (m n : ℕ) (x y : A) → (m ≤ n → P x) → (n < m → P y) → P (cond (leb m n) x y)

@@ -176,3 +176,13 @@ module _ (xs ys : List ℕ) (i : ℕ) (h : i < length xs) (k : i < length ys) wh
 pub same-done : (xs ys : List ℕ) (i : ℕ) → length xs ≤ i → length ys ≤ i → same (drop i xs) (drop i ys) ≡ same xs ys → true ≡ same xs ys
 unfolding same
 same-done xs ys i h k e = (λ j. same (sym (drop-end xs i h) j) (sym (drop-end ys i k) j)) ∙ e
+
+-- two tests that agree place by place agree as wholes
+pub every-same {ℓ κ} : {A : Type ℓ} {B : Type κ} (p : A → Bool) (q : B → Bool) (xs : List A) (ys : List B) (d : A) (e : B) → length xs ≡ length ys
+    → ((i : ℕ) → i < length xs → p (getD xs i d) ≡ q (getD ys i e)) → every p xs ≡ every q ys
+unfolding every
+every-same p q [] [] d e h f = refl
+every-same p q [] (y ∷ ys) d e h f = absurd (omega arith)
+every-same p q (x ∷ xs) [] d e h f = absurd (omega arith)
+every-same p q (x ∷ xs) (y ∷ ys) d e h f =
+    λ i. also (f 0 (omega arith) i) (every-same p q xs ys d e (omega arith) (λ j k. f (suc j) (omega arith)) i)

@@ -75,6 +75,12 @@ module _ {ℓ} {A : Type ℓ} where
   pub three-parts : (xs : List A) (a k : ℕ) → take a xs ++ take k (drop a xs) ++ drop (a + k) xs ≡ xs
   three-parts xs a k = rw (← (take-add a k xs)) (take-append-drop (a + k) xs)
 
+  -- an element that is there does not depend on the default
+  pub getD-any : (xs : List A) (i : ℕ) (d e : A) → i < length xs → getD xs i d ≡ getD xs i e
+  getD-any [] i d e h = absurd (omega arith)
+  getD-any (x ∷ xs) zero d e h = refl
+  getD-any (x ∷ xs) (suc i) d e h = getD-any xs i d e (omega arith)
+
   -- a front and a part of one value again and again
   pub take-replicate : (n m : ℕ) (v : A) → take n (replicate m v) ≡ replicate (min n m) v
   take-replicate zero m v = rw (zero-min m)
@@ -91,6 +97,12 @@ module _ {ℓ} {A : Type ℓ} where
       let e : min k (n - a) ≡ k = omega arith in
       ap (take k) (drop-replicate a n v) ∙ take-replicate k (n - a) v ∙ ap (λ (m : ℕ). replicate m v) e
 
+-- an element of a mapped list
+pub getD-map-in {ℓ κ} : {A : Type ℓ} {B : Type κ} (f : A → B) (xs : List A) (i : ℕ) (d : A) (e : B) → i < length xs → getD (map f xs) i e ≡ f (getD xs i d)
+getD-map-in f [] i d e h = absurd (omega arith)
+getD-map-in f (x ∷ xs) zero d e h = refl
+getD-map-in f (x ∷ xs) (suc i) d e h = getD-map-in f xs i d e (omega arith)
+
 -- a part of the images is the images of the part
 module _ {ℓ κ} {A : Type ℓ} {B : Type κ} (f : A → B) where
   pub map-take : (k : ℕ) (xs : List A) → map f (take k xs) ≡ take k (map f xs)
@@ -102,3 +114,19 @@ module _ {ℓ κ} {A : Type ℓ} {B : Type κ} (f : A → B) where
   map-drop zero xs = refl
   map-drop (suc k) [] = refl
   map-drop (suc k) (x ∷ xs) = map-drop k xs
+
+-- the list of n elements that a function gives
+unfoldable pub tab {ℓ} : {A : Type ℓ} → ℕ → (ℕ → A) → List A
+tab zero f = []
+tab (suc n) f = f 0 ∷ tab n (λ i. f (suc i))
+
+pub length-tab {ℓ} : {A : Type ℓ} (n : ℕ) (f : ℕ → A) → length (tab n f) ≡ n
+unfolding tab
+length-tab zero f = refl
+length-tab (suc n) f = ap suc (length-tab n (λ i. f (suc i)))
+
+pub getD-tab {ℓ} : {A : Type ℓ} (n : ℕ) (f : ℕ → A) (i : ℕ) (d : A) → i < n → getD (tab n f) i d ≡ f i
+unfolding tab
+getD-tab zero f i d h = absurd (omega arith)
+getD-tab (suc n) f zero d h = refl
+getD-tab (suc n) f (suc i) d h = getD-tab n (λ j. f (suc j)) i d (omega arith)

@@ -1,6 +1,6 @@
 -- A list as a ring of S elements, S its length. A position is below S; an offset from a position is counted going round. Every law holds
 -- for every S: facts go by index, and each conditional has its two cases. Assumes nothing.
-use Prim.Native.Nat.{ℕ, zero, suc, _+_, _-_, _≤_, _<_, min}
+use Prim.Native.Nat.{ℕ, zero, suc, _+_, _-_, _*_, _≤_, _<_, min}
 use mathlib.Core.Bool.{Bool, true, false, cond}
 use mathlib.Core.Path.{_≡_, refl, sym, _∙_, ap, subst}
 use mathlib.Core.List.{List, [], _∷_, _++_, append-assoc, append-nil}
@@ -95,6 +95,19 @@ off-shift S s a i h ha hi =
     by-wrap (λ (v : ℕ). off S (s + a) v ≡ i + S - a) S (s + i)
     (λ n. by-off (λ (o : ℕ). o ≡ i + S - a) S (s + a) (s + i - S) (λ q. omega arith) (λ q. omega arith))
     (λ n. by-off (λ (o : ℕ). o ≡ i + S - a) S (s + a) (s + i) (λ q. omega arith) (λ q. omega arith))))
+
+-- a ring of blocks of 4,096 elements: an element's offset and position go by its block's
+pub off-scaled : (S p i r : ℕ) → p < S → i < S → r < 4096 → off (S * 4096) (p * 4096) (i * 4096 + r) ≡ off S p i * 4096 + r
+off-scaled S p i r h k l =
+    by-off (λ (o : ℕ). off (S * 4096) (p * 4096) (i * 4096 + r) ≡ o * 4096 + r) S p i
+    (λ m. by-off (λ (o : ℕ). o ≡ (i - p) * 4096 + r) (S * 4096) (p * 4096) (i * 4096 + r) (λ n. omega arith) (λ n. absurd (omega arith)))
+    (λ m. by-off (λ (o : ℕ). o ≡ (i + S - p) * 4096 + r) (S * 4096) (p * 4096) (i * 4096 + r) (λ n. absurd (omega arith)) (λ n. omega arith))
+
+pub wrap-scaled : (S x r : ℕ) → r < 4096 → wrap (S * 4096) (x * 4096 + r) ≡ wrap S x * 4096 + r
+wrap-scaled S x r l =
+    by-wrap (λ (w : ℕ). wrap (S * 4096) (x * 4096 + r) ≡ w * 4096 + r) S x
+    (λ m. by-wrap (λ (w : ℕ). w ≡ (x - S) * 4096 + r) (S * 4096) (x * 4096 + r) (λ n. omega arith) (λ n. absurd (omega arith)))
+    (λ m. by-wrap (λ (w : ℕ). w ≡ x * 4096 + r) (S * 4096) (x * 4096 + r) (λ n. absurd (omega arith)) (λ n. refl))
 
 -- the n elements from `at` on, going round
 unfoldable pub around {ℓ} : {A : Type ℓ} → List A → ℕ → ℕ → List A
@@ -300,8 +313,8 @@ module _ {ℓ} {A : Type ℓ} where
       (ey ∙ ap (clipped x 0) (sym (part-replicate first (end - first) n v (omega arith))))
 
   -- the interval that a write covered shows the write
-  pub around-here : (d : List A) (at : ℕ) (s : List A) (x : A) → at < length d → length s ≤ length d → around (spliceAround d at s) at (length s) ≡ s
-  around-here d at s x h k =
+  around-here-by : (d : List A) (at : ℕ) (s : List A) (x : A) → at < length d → length s ≤ length d → around (spliceAround d at s) at (length s) ≡ s
+  around-here-by d at s x h k =
       ext-getD x (around w at (length s)) s
       (length-around w at (length s) (omega (arith, long)) (omega (arith, long)))
       (λ t l.
@@ -337,17 +350,17 @@ module _ {ℓ} {A : Type ℓ} where
       ld = length-around d q m (omega (arith, k)) l
 
   -- a write that covers no place of an interval leaves what the interval shows
-  pub around-elsewhere : (d : List A) (p : ℕ) (s : List A) (q m : ℕ) (x : A) → p < length d → length s ≤ length d → q < length d → m ≤ length d
+  around-elsewhere-by : (d : List A) (p : ℕ) (s : List A) (q m : ℕ) (x : A) → p < length d → length s ≤ length d → q < length d → m ≤ length d
       → ((t : ℕ) → t < m → length s ≤ off (length d) p (wrap (length d) (q + t))) → around (spliceAround d p s) q m ≡ around d q m
-  around-elsewhere d p s q m x hp hs hq hm f =
+  around-elsewhere-by d p s q m x hp hs hq hm f =
       around-same d (spliceAround d p s) q m x (length-spliceAround d p s (omega arith) hs) hq hm
       (λ t l.
       getD-spliceAround d p s (wrap (length d) (q + t)) x hp hs (wrap-in (length d) (q + t) (omega arith))
       ∙ simp (le-ltb (off (length d) p (wrap (length d) (q + t))) (length s) (f t l)))
 
   -- an interval and the one after it
-  pub around-append : (s : List A) (at n m : ℕ) (x : A) → at < length s → n + m ≤ length s → around s at (n + m) ≡ around s at n ++ around s (wrap (length s) (at + n)) m
-  around-append s at n m x h k =
+  around-append-by : (s : List A) (at n m : ℕ) (x : A) → at < length s → n + m ≤ length s → around s at (n + m) ≡ around s at n ++ around s (wrap (length s) (at + n)) m
+  around-append-by s at n m x h k =
       ext-getD x (around s at (n + m)) (around s at n ++ around s next m) (both ∙ sym joined)
       (λ t l.
       let lt : t < n + m = omega (arith, l, both) in
@@ -401,6 +414,22 @@ module _ {ℓ} {A : Type ℓ} where
       ∙ take-append-add (drop at s) (take at s) (at + n - length s)
       ∙ ap (λ (z : List A). drop at s ++ z) (take-take (at + n - length s) at s (omega arith))
 
+  -- in one part or two: up to the end, and the rest from the front
+  pub around-parts : (s : List A) (at n : ℕ) → at ≤ length s → n ≤ length s
+      → around s at n ≡ take (min n (length s - at)) (drop at s) ++ take (n - min n (length s - at)) s
+  around-parts s at n h k =
+      split-le n (length s - at)
+      (λ l.
+      let e : min n (length s - at) ≡ n = omega arith in
+      let z : n - n ≡ 0 = omega arith in
+      rw (e, z) (around-straight s at n (omega arith) ∙ sym (append-nil (take n (drop at s)))))
+      (λ l.
+      let e : min n (length s - at) ≡ length s - at = omega arith in
+      let z : n - (length s - at) ≡ at + n - length s = omega arith in
+      rw (e, z)
+      (around-past s at n h (omega arith) k
+      ∙ ap (λ (x : List A). x ++ take (at + n - length s) s) (sym (take-all (length s - at) (drop at s) (simp length-drop (omega arith))))))
+
   pub around-none : (s : List A) (at : ℕ) → around s at 0 ≡ []
   unfolding around
   around-none s at = refl
@@ -410,9 +439,28 @@ module _ {ℓ} {A : Type ℓ} where
   unfolding around
   around-take s at n k h = take-take k n (drop at s ++ take at s) h
 
-  pub around-drop : (s : List A) (at n k : ℕ) (x : A) → at < length s → n ≤ length s → k ≤ n → drop k (around s at n) ≡ around s (wrap (length s) (at + k)) (n - k)
-  around-drop s at n k x h l m =
+  around-drop-by : (s : List A) (at n k : ℕ) (x : A) → at < length s → n ≤ length s → k ≤ n → drop k (around s at n) ≡ around s (wrap (length s) (at + k)) (n - k)
+  around-drop-by s at n k x h l m =
       let e : k + (n - k) ≡ n = omega arith in
       ap (λ (j : ℕ). drop k (around s at j)) (sym e)
-      ∙ ap (drop k) (around-append s at k (n - k) x h (omega arith))
+      ∙ ap (drop k) (around-append-by s at k (n - k) x h (omega arith))
       ∙ drop-at (around s at k) (around s (wrap (length s) (at + k)) (n - k)) k (length-around s at k (omega arith) (omega arith))
+
+-- the last laws again, with no element to name: a ring with a place has one
+module _ {ℓ} {A : Type ℓ} where
+  pub around-here : (d : List A) (at : ℕ) (s : List A) → at < length d → length s ≤ length d → around (spliceAround d at s) at (length s) ≡ s
+  around-here [] at s h k = absurd (omega arith)
+  around-here (y ∷ d) at s h k = around-here-by (y ∷ d) at s y h k
+
+  pub around-append : (s : List A) (at n m : ℕ) → at < length s → n + m ≤ length s → around s at (n + m) ≡ around s at n ++ around s (wrap (length s) (at + n)) m
+  around-append [] at n m h k = absurd (omega arith)
+  around-append (y ∷ s) at n m h k = around-append-by (y ∷ s) at n m y h k
+
+  pub around-elsewhere : (d : List A) (p : ℕ) (s : List A) (q m : ℕ) → p < length d → length s ≤ length d → q < length d → m ≤ length d
+      → ((t : ℕ) → t < m → length s ≤ off (length d) p (wrap (length d) (q + t))) → around (spliceAround d p s) q m ≡ around d q m
+  around-elsewhere [] p s q m hp hs hq hm f = absurd (omega arith)
+  around-elsewhere (y ∷ d) p s q m hp hs hq hm f = around-elsewhere-by (y ∷ d) p s q m y hp hs hq hm f
+
+  pub around-drop : (s : List A) (at n k : ℕ) → at < length s → n ≤ length s → k ≤ n → drop k (around s at n) ≡ around s (wrap (length s) (at + k)) (n - k)
+  around-drop [] at n k h l m = absurd (omega arith)
+  around-drop (y ∷ s) at n k h l m = around-drop-by (y ∷ s) at n k y h l m

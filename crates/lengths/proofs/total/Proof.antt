@@ -3,7 +3,7 @@ use borrow.Author.Needs.{needs}
 use lib.ListN.{take}
 use mathlib.Core.Path.{_≡_, refl}
 use native.Mathlib.Omega.{arith}
-use Rattle.laws.specs.Fold.{sum, sum-take-step}
+use Rattle.laws.specs.Fold.{sum-take-step}
 use Rattle.lengths.specs.Total.{total-end}
 use Rattle.lengths.proofs.total.Statement.{statement}
 use Rattle.laws.specs.Fold as fold

@@ -1,0 +1,11 @@
+pub mod Sets
+pub mod Codec
+pub mod JournalDisk
+pub mod MachineState
+pub mod JournalCache
+pub mod JournalSystem
+pub mod Limits
+pub mod Departures
+pub mod Unique
+pub mod Answers
+pub mod Open
