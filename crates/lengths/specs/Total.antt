@@ -1,16 +1,12 @@
 -- The sum of lengths as the walk gives it, and the lengths as bytes of a range.
-use Prim.Native.Nat.{ℕ, _%_, _≤_, _<_, min}
-use mathlib.Core.Bool.{false}
+use Prim.Native.Nat.{ℕ, _%_, _≤_, min}
 use mathlib.Core.Path.{_≡_, refl, _∙_, ap}
 use mathlib.Core.List.{List, [], _∷_}
-use native.Mathlib.Omega.{arith}
-use borrow.Author.Tests.{le-leb, lt-leb}
 use lib.ListN.{length, take}
 use lib.Seq.{take-all}
-use Rattle.laws.specs.Choice.{also}
 use Rattle.laws.specs.Part.{take-min}
 use Rattle.laws.specs.Fold.{sum}
-use Rattle.range.specs.Form.{lowFirst, lengthBytes, okLength}
+use Rattle.range.specs.Form.{lowFirst, lengthBytes}
 use Rattle.runs.specs.Low.{lowBytes}
 
 -- as many lengths of 16 bits as have a sum of 64 bits for sure
@@ -30,15 +26,6 @@ clippedTotal-is lens h = ap sum (take-all MostCounted lens h)
 pub total-end : (lens : List ℕ) (s i : ℕ) → s ≡ sum (take i lens) → i ≡ min MostCounted (length lens) → s ≡ clippedTotal lens
 unfolding clippedTotal
 total-end lens s i e h = e ∙ ap (λ (n : ℕ). sum (take n lens)) h ∙ ap sum (take-min lens MostCounted (length lens) refl)
-
--- a length that is too short, and one that is too long
-pub okLength-zero : (most n : ℕ) → n < 1 → okLength most n ≡ false
-unfolding okLength also
-okLength-zero most n h = simp (lt-leb 1 n h)
-
-pub okLength-long : (most n : ℕ) → most < n → okLength most n ≡ false
-unfolding okLength also
-okLength-long most n h = simp (le-leb 1 n (omega arith), lt-leb n most h)
 
 -- the single bytes of lengths are their bytes in a range
 pub lengthBytes-low : (ns : List ℕ) → lengthBytes 1 ns ≡ lowBytes ns

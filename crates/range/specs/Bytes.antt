@@ -10,7 +10,7 @@ use lib.ListN.{length, take, drop, getD, length-append, length-drop}
 use lib.Dec.{leb, ltb}
 use lib.Seq.{take-at, drop-at, take-add, drop-drop, length-take-le, getD-drop}
 use borrow.Author.Tests.{lt-ltb, le-leb, lt-leb, ltb-true, leb-true}
-use Rattle.laws.specs.Choice.{also, also-left, also-right, also-both}
+use Rattle.laws.specs.Choice.{also, also-left, also-right, also-both, not-so}
 use Rattle.laws.specs.Fold.{every, every-append, every-take, every-drop, every-all, every-at}
 use Rattle.range.specs.Form.{lowFirst, fromLow, lengthBytes, lengthsFrom, okLength, blockCount, entryCount}
 
@@ -43,9 +43,14 @@ pub ok-yes : (most n : ℕ) → 1 ≤ n → n ≤ most → okLength most n ≡ t
 unfolding okLength
 ok-yes most n h k = also-both (leb 1 n) (leb n most) (le-leb 1 n h) (le-leb n most k)
 
-pub ok-none : (most n : ℕ) → n < 1 → okLength most n ≡ false
+-- one that is too short, and one that is too long
+pub ok-short : (most n : ℕ) → n < 1 → okLength most n ≡ false
 unfolding okLength also
-ok-none most n h = simp (lt-leb 1 n h)
+ok-short most n h = simp (lt-leb 1 n h)
+
+pub ok-long : (most n : ℕ) → most < n → okLength most n ≡ false
+unfolding okLength
+ok-long most n h = not-so (okLength most n) (λ e. let k = ok-high most n e in omega arith)
 
 -- a number in w bytes
 pub length-lowFirst : (w n : ℕ) → length (lowFirst w n) ≡ w

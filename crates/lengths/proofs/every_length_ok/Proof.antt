@@ -3,8 +3,7 @@ use lib.ListN.{length, drop}
 use mathlib.Core.Path.{_≡_, refl}
 use native.Mathlib.Omega.{arith}
 use Rattle.laws.specs.Fold.{every, every-no, every-yes, every-done}
-use Rattle.lengths.specs.Total.{okLength-zero, okLength-long}
-use Rattle.range.specs.Bytes.{ok-yes}
+use Rattle.range.specs.Bytes.{ok-yes, ok-short, ok-long}
 use Rattle.range.specs.Form.{okLength}
 use Rattle.lengths.proofs.every_length_ok.Statement.{statement}
 use Rattle.lengths.proofs.every_length_ok.Tie as tie
@@ -28,7 +27,7 @@ returns : tie.Need-returns Inv-loop μ-loop
 returns c =
     let i = c .before .before .before in
     let a = i .before .args in
-    every-no (okLength (a .most)) (a .lens .now) (i .loop .i) 0 (omega arith) (i .loop .inv .1) (okLength-zero (a .most) _ (omega arith))
+    every-no (okLength (a .most)) (a .lens .now) (i .loop .i) 0 (omega arith) (i .loop .inv .1) (ok-short (a .most) _ (omega arith))
 
 mul-if2 : tie.Need-mul-if2 Inv-loop μ-loop
 mul-if2 c = omega arith
@@ -40,7 +39,7 @@ returns-2 : tie.Need-returns-2 Inv-loop μ-loop
 returns-2 c =
     let i = c .before .before .before .before .before in
     let a = i .before .args in
-    every-no (okLength (a .most)) (a .lens .now) (i .loop .i) 0 (omega arith) (i .loop .inv .1) (okLength-long (a .most) _ (omega arith))
+    every-no (okLength (a .most)) (a .lens .now) (i .loop .i) 0 (omega arith) (i .loop .inv .1) (ok-long (a .most) _ (omega arith))
 
 add-i : tie.Need-add-i Inv-loop μ-loop
 add-i c = omega arith

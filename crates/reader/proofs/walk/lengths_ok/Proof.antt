@@ -4,7 +4,7 @@ use lib.ListN.{length, drop}
 use mathlib.Core.Path.{_≡_, refl}
 use native.Mathlib.Omega.{arith}
 use Rattle.laws.specs.Fold.{every, every-no, every-yes, every-done}
-use Rattle.range.specs.Bytes.{ok-yes, ok-none}
+use Rattle.range.specs.Bytes.{ok-yes, ok-short}
 use Rattle.range.specs.Form.{MostEntryLength, okLength}
 use Rattle.reader.proofs.walk.lengths_ok.Statement.{statement}
 use Rattle.reader.proofs.walk.lengths_ok.Tie as tie
@@ -24,7 +24,7 @@ shared-slice-read-if1 c = omega arith
 returns : tie.Need-returns Inv-loop μ-loop
 returns c =
     let i = c .before .before .before in
-    every-no (okLength MostEntryLength) (now (i .before .args .lengths)) (i .loop .i) 0 (omega arith) (i .loop .inv .1) (ok-none MostEntryLength _ (omega arith))
+    every-no (okLength MostEntryLength) (now (i .before .args .lengths)) (i .loop .i) 0 (omega arith) (i .loop .inv .1) (ok-short MostEntryLength _ (omega arith))
 
 add-i : tie.Need-add-i Inv-loop μ-loop
 add-i c = omega arith
