@@ -5,15 +5,15 @@ use mathlib.Core.Path.{_≡_, refl, sym, _∙_, ap}
 use mathlib.Core.List.{List, [], _∷_}
 use native.Mathlib.Nat.{zero-add, add-zero, add-assoc}
 use native.Mathlib.Omega.{arith}
-use lib.ListN.{length, take, getD, set}
+use lib.ListN.{length, take, drop, getD, set}
 use lib.Seq.{take-all}
 use lib.Dec.{eqb}
 use borrow.Author.Tests.{eq-eqb, ne-eqb}
 use Rattle.laws.specs.Choice.{ask, andThen, unless, unless-kept, unless-done}
 use Rattle.laws.specs.Splice.{splice, copy-turn}
 use Rattle.laws.specs.Fold.{sum}
-use Rattle.range.specs.Form.{MostEntries, HeadSize, entryCount, lengthsAt, entries, parses}
-use Rattle.range.specs.Shape.{length-lengthsAt}
+use Rattle.range.specs.Form.{MostEntries, HeadSize, entryCount, lengthsAt, entriesAt, entries, parses}
+use Rattle.range.specs.Shape.{length-lengthsAt, entry-part}
 use Rattle.reader.specs.declared.answer.Counted.{Counted}
 use Rattle.reader.specs.declared.answer.Counted.the-variants as count
 use Rattle.reader.specs.Answer.{counted, counted-entries, counted-refused}
@@ -51,6 +51,11 @@ module _ (w : ℕ) (xs : List ℕ) where
   pub bodyStarts-at : (i : ℕ) → i < entryCount xs → getD (bodyStarts w xs) i 0 ≡ bodyStart w xs i
   unfolding bodyStarts bodyStart
   bodyStarts-at i h = startsFrom-at (HeadSize + entryCount xs * w) (lengthsAt w xs) i (rw (length-lengthsAt w xs) h)
+
+  -- each start is where the entry's body lies
+  pub body-listed : (i : ℕ) → i < entryCount xs → take (getD (lengthsAt w xs) i 0) (drop (getD (bodyStarts w xs) i 0) xs) ≡ getD (entriesAt w xs) i []
+  unfolding bodyStart
+  body-listed i h = entry-part w xs i (getD (bodyStarts w xs) i 0) (getD (lengthsAt w xs) i 0) h (bodyStarts-at i h) refl
 
   -- the next turn of a listing, and its end
   pub list-turn : (x d : List ℕ) (j v : ℕ) → x ≡ splice d 0 (take j (bodyStarts w xs)) → v ≡ bodyStart w xs j → j < entryCount xs → j < length d

@@ -25,7 +25,7 @@ pub(crate) fn body_start(s: &[u8], i: usize) -> usize
     HEAD_SIZE + entries + before
 }
 
-// Where a body of the given length ends.
+// Where a body of the given length ends, within 64 bits.
 fn body_end(start: usize, length: u8) -> usize
     requires { ⌜ start + length < 18446744073709551616 ⌝ }
     ensures { λ r. ⌜ r ≡ start + length ⌝ }

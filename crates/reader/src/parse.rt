@@ -22,21 +22,18 @@ ghost use Rattle.reader.specs.Range.{contentsOf, countsOk};
 pub fn contents(s: &[u8]) -> Contents
     ensures { λ r. ⌜ r ≡ contentsOf (now (s .entry)) ⌝ }
 {
+    let nothing = Contents {
+        blocks: 0,
+        entries: 0,
+        bytes: 0,
+    };
     if s.len() < HEAD_SIZE {
-        return Contents {
-            blocks: 0,
-            entries: 0,
-            bytes: 0,
-        };
+        return nothing;
     }
     let entries = entry_count(s);
     let bodies = HEAD_SIZE + entries;
     if s.len() < bodies {
-        return Contents {
-            blocks: 0,
-            entries: 0,
-            bytes: 0,
-        };
+        return nothing;
     }
     let blocks = block_count(s);
     let bytes = total(&s[HEAD_SIZE..bodies]);
