@@ -8,8 +8,8 @@ use native.Mathlib.Omega.{arith}
 use lib.ListN.{length, take, drop, length-append}
 use lib.Seq.{take-all, drop-drop, drop-at}
 use lib.Dec.{leb}
-use borrow.Author.Tests.{le-leb, lt-leb}
-use Rattle.laws.specs.Choice.{also, ask, andThen, unless, ask-yes, unless-kept, unless-done}
+use borrow.Author.Tests.{le-leb, lt-leb, leb-true}
+use Rattle.laws.specs.Choice.{also, ask, andThen, unless, also-left, also-right, andThen-left, andThen-right, ask-yes, unless-kept, unless-done}
 use Rattle.laws.specs.Part.{tail-is}
 use Rattle.laws.specs.Splice.{splice, clipped, splice-none, splice-more, clipped-fits, length-clipped}
 use Rattle.laws.specs.Cut.{flat, lengths, length-flat, length-lengths, flat-append, lengths-append}
@@ -33,6 +33,16 @@ pub record Room (xs bytes lens : List ℕ) : Type 0 where
   pub parse : allParse xs ≡ true
   pub for-bytes : length xs ≤ length bytes
   pub for-lens : length xs ≤ length lens
+
+pub unpack-asked : (xs bytes lens : List ℕ) → askUnpack xs bytes lens ≡ 0 → Room xs bytes lens
+unfolding askUnpack
+unpack-asked xs bytes lens e =
+    let lent : also (leb (length xs) (length bytes)) (leb (length xs) (length lens)) ≡ true = ask-yes 1 _ (omega arith) (andThen-left (ask 1 _) _ e) in
+    record {
+      parse = ask-yes 7 (allParse xs) (omega arith) (andThen-right (ask 1 _) (ask 7 (allParse xs)) e);
+      for-bytes = leb-true (length xs) (length bytes) (also-left _ _ lent);
+      for-lens = leb-true (length xs) (length lens) (also-right _ _ lent);
+    }
 
 -- the front of a whole was written, n elements of it, and what is left of it is r
 pub record Written (whole r d x : List ℕ) (n : ℕ) : Type 0 where

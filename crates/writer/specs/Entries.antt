@@ -69,6 +69,10 @@ module _ (bytes lens : List ℕ) (n : ℕ) where
       (also-both _ _ (le-leb n (length lens) (f .there))
       (also-both _ _ (f .each) (le-leb (total lens n) (length bytes) (f .fit)))))
 
+  pub entries-asked : askEntries bytes lens n ≡ 0 → Fits bytes lens n
+  unfolding askEntries
+  entries-asked e = entries-facts (ask-yes 4 (entriesOk bytes lens n) (omega arith) e)
+
   -- such entries are good, and their range is as large as their lengths say
   pub fits-good : Fits bytes lens n → Good MostEntryLength (view bytes lens n)
   fits-good f = good-view LengthWidth MostEntryLength bytes lens n (f .there) (f .fit) (f .any) (f .few) (f .each)

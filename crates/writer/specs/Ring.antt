@@ -3,21 +3,23 @@ use Prim.Native.Nat.{ℕ, _+_, _*_, _/_, _%_, _-_, _≤_, _<_}
 use mathlib.Core.Bool.{Bool, true, false}
 use mathlib.Core.Path.{_≡_, sym, _∙_, ap}
 use mathlib.Core.List.{List}
+use mathlib.Core.Option.{some}
 use native.Mathlib.Nat.{sub-zero}
 use native.Mathlib.Omega.{arith}
 use lib.ListN.{length, take, replicate, length-replicate}
 use lib.Seq.{take-all, length-take-le}
 use lib.Dec.{leb, ltb, eqb}
-use borrow.Author.Tests.{lt-ltb, le-ltb, le-leb, lt-leb}
-use Rattle.laws.specs.Choice.{also, ask, andThen, unless, ask-yes, andThen-first, unless-kept, unless-done}
-use Rattle.laws.specs.Ring.{wrap, spliceAround, wrap-below, length-spliceAround}
-use Rattle.range.specs.Form.{BlockSize, MostEntryLength, LengthWidth, HeadSize, used, blocksFor, blocks, encode}
-use Rattle.range.specs.Blocks.{blocks-hold, good-blocks, format-sizes}
+use borrow.Author.Tests.{lt-ltb, le-ltb, le-leb, lt-leb, eqb-true, leb-true, ltb-true}
+use Rattle.laws.specs.Choice.{also, ask, andThen, unless, also-left, also-right, andThen-left, andThen-right, ask-yes, andThen-first, unless-kept, unless-done}
+use Rattle.laws.specs.Ring.{wrap, around, spliceAround, wrap-below, length-spliceAround, around-here}
+use Rattle.range.specs.Form.{BlockSize, MostEntryLength, LengthWidth, HeadSize, used, blocksFor, blocks, encode, parse}
+use Rattle.range.specs.Blocks.{blocks-hold, good-blocks, format-sizes, length-encodeAt}
+use Rattle.range.specs.Round.{parse-encode}
 use Rattle.range.specs.Memory.{view, total, write-view}
 use Rattle.range.specs.Runs.{head, length-head}
 use Rattle.runs.specs.Low.{lowBytes, length-lowBytes}
 use Rattle.lengths.specs.Total.{lengthBytes-low}
-use Rattle.writer.specs.Entries.{entriesOk, entries-facts, fits-good, fits-blocks}
+use Rattle.writer.specs.Entries.{entriesOk, Fits, entries-facts, fits-good, fits-blocks}
 
 -- the most blocks of a journal
 abbrev pub MostBlocks : ℕ
@@ -33,6 +35,41 @@ askWrite bytes lens n journal start =
     andThen (ask 1 (journalOk (length journal)))
     (andThen (ask 4 (also (ltb start (length journal / BlockSize)) (entriesOk bytes lens n)))
     (ask 8 (leb (blocks (view bytes lens n)) (length journal / BlockSize))))
+
+-- all were answered yes
+pub record Writable (bytes lens : List ℕ) (n : ℕ) (journal : List ℕ) (start : ℕ) : Type 0 where
+  pub whole : length journal ≡ length journal / BlockSize * BlockSize
+  pub most : length journal / BlockSize ≤ MostBlocks
+  pub inside : start < length journal / BlockSize
+  pub entries : Fits bytes lens n
+  pub holds : blocks (view bytes lens n) ≤ length journal / BlockSize
+
+pub write-asked : (bytes lens : List ℕ) (n : ℕ) (journal : List ℕ) (start : ℕ) → askWrite bytes lens n journal start ≡ 0 → Writable bytes lens n journal start
+unfolding askWrite journalOk
+write-asked bytes lens n journal start e =
+    let j : journalOk (length journal) ≡ true = ask-yes 1 (journalOk (length journal)) (omega arith) (andThen-left (ask 1 (journalOk (length journal))) _ e) in
+    let r = andThen-right (ask 1 (journalOk (length journal))) _ e in
+    let a : also (ltb start (length journal / BlockSize)) (entriesOk bytes lens n) ≡ true = ask-yes 4 _ (omega arith) (andThen-left (ask 4 _) _ r) in
+    let m : length journal % BlockSize ≡ 0 = eqb-true (length journal % BlockSize) 0 (also-left _ _ j) in
+    record {
+      whole = omega arith;
+      most = leb-true (length journal / BlockSize) MostBlocks (also-right _ _ (also-right _ _ j));
+      inside = ltb-true start (length journal / BlockSize) (also-left _ _ a);
+      entries = entries-facts bytes lens n (also-right _ _ a);
+      holds = leb-true (blocks (view bytes lens n)) (length journal / BlockSize) (ask-yes 8 _ (omega arith) (andThen-right (ask 4 _) (ask 8 _) r));
+    }
+
+-- what was written stands on the ring from its start on, and reads as the same entries
+module _ (bytes lens : List ℕ) (n : ℕ) (journal : List ℕ) (start : ℕ) (w : Writable bytes lens n journal start) where
+  pub write-there : around (spliceAround journal (start * BlockSize) (encode (view bytes lens n))) (start * BlockSize) (blocks (view bytes lens n) * BlockSize)
+      ≡ encode (view bytes lens n)
+  write-there =
+      let long : length (encode (view bytes lens n)) ≡ blocks (view bytes lens n) * BlockSize = length-encodeAt LengthWidth (view bytes lens n) in
+      ap (around (spliceAround journal (start * BlockSize) (encode (view bytes lens n))) (start * BlockSize)) (sym long)
+      ∙ around-here journal (start * BlockSize) (encode (view bytes lens n)) (omega (arith, w .whole, w .inside)) (omega (arith, w .whole, w .holds, long))
+
+  pub write-reads : parse (encode (view bytes lens n)) ≡ some (view bytes lens n)
+  write-reads = parse-encode LengthWidth MostEntryLength (view bytes lens n) format-sizes (fits-good bytes lens n (w .entries))
 
 -- the ways out of the questions
 module _ (bytes lens : List ℕ) (n : ℕ) (journal : List ℕ) (start : ℕ) where
