@@ -25,9 +25,9 @@ pub(crate) fn body_start(s: &[u8], i: usize) -> usize
     HEAD_SIZE + entries + before
 }
 
-// Where a body of the given length ends, within 64 bits.
+// Where a body of the given length ends: a place of a slice has 63 bits.
 fn body_end(start: usize, length: u8) -> usize
-    requires { ⌜ start + length < 18446744073709551616 ⌝ }
+    requires { ⌜ start < 9223372036854775808 ⌝ }
     ensures { λ r. ⌜ r ≡ start + length ⌝ }
 {
     start + wide(length)

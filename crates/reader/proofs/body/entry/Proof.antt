@@ -44,9 +44,7 @@ shared-slice-read-body-end : tie.Need-shared-slice-read-body-end
 shared-slice-read-body-end c = let s = shape (c .before .before) in omega (arith, index (c .before .before))
 
 body-end-requires : tie.Need-body-end-requires
-body-end-requires c κs =
-    let q = c .before .before in
-    omega (arith, body-within (now (start q .args .s)) (start q .args .i) (shape q) (index q), c .before .body-start .ensures .0)
+body-end-requires c κs = omega (arith, c .before .body-start .ensures .1)
 
 sub-result-2 : tie.Need-sub-result-2
 sub-result-2 c = search needs
