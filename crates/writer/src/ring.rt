@@ -66,8 +66,8 @@ fn zeros_behind(used: usize, blocks: usize) -> usize
     blocks * BLOCK_SIZE - used
 }
 
-// The range of the first n entries, with so many bytes of bodies and so many blocks, from the place `at` on. Only the bodies can reach
-// the ring's end: head and lengths lie within the first block.
+// The range of the first n entries, with so many bytes of bodies and so many blocks, from the place `at` on. Head and lengths lie within
+// the first block; bodies and padding may go round.
 fn put(
     bytes: &[u8],
     lens: &[u16],
