@@ -1,12 +1,11 @@
 // The first n entries of a memory by their lengths: their bytes, and whether they are allowed.
 use lengths::every_length_ok;
 use lengths::total;
+use range::MOST_ENTRY_LENGTH;
 ghost use mathlib.Core.Path.{_≡_};
 ghost use Prim.Native.Nat.{_≤_};
 ghost use Rattle.memory.specs.Entries.{memory, entriesOk, askGiven, Countable, MostReplay};
 ghost use Rattle.range.specs.Memory.{total};
-
-const MOST_ENTRY_LENGTH: u16 = 255;
 
 const MOST_GIVEN: u64 = 16;
 

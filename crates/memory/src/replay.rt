@@ -10,7 +10,7 @@ ghost use mathlib.Core.Path.{_≡_};
 ghost use Rattle.memory.specs.Entries.{memory, Countable};
 ghost use Rattle.memory.specs.Replay.{askReplayLent, takenOk, askReplay, nextOfReplay, nextAnswer, Compared};
 
-const BLOCK_SIZE: u64 = 4096;
+const BLOCK_SIZE: u64 = range::BLOCK_SIZE as u64;
 
 const MOST_BLOCKS: u64 = 4096;
 

@@ -1,10 +1,10 @@
 // One entry of a range: its body is a part of the lent bytes.
 use super::answer::Counted;
-use super::head::HEAD_SIZE;
 use super::head::entry_count;
 use super::head::wide;
 use super::parse::count;
 use super::walk::total;
+use range::HEAD_SIZE;
 ghost use mathlib.Core.Path.{_≡_};
 ghost use mathlib.Core.List.{[]};
 ghost use Prim.Native.Nat.{_+_, _≤_, _<_};

@@ -4,12 +4,6 @@ ghost use Prim.Native.Nat.{_+_, _*_, _≤_, _<_};
 ghost use lib.ListN.{length};
 ghost use Rattle.range.specs.Form.{HeadSize, blockCount, entryCount};
 
-pub(crate) const HEAD_SIZE: usize = 4;
-
-pub(crate) const BLOCK_SIZE: usize = 4096;
-
-pub(crate) const MOST_ENTRIES: usize = 1024;
-
 // A byte as a place or a size.
 pub(crate) fn wide(x: u8) -> usize
     ensures { λ r. ⌜ (r ≡ x) × (r < 256) ⌝ }

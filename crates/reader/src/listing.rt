@@ -1,8 +1,8 @@
 // A listing of a range: where each body begins.
 use super::answer::Counted;
 use super::body::body_start;
-use super::head::MOST_ENTRIES;
 use super::parse::count;
+use range::MOST_ENTRIES;
 ghost use mathlib.Core.Path.{_≡_};
 ghost use Prim.Native.Nat.{_≤_};
 ghost use lib.ListN.{length};

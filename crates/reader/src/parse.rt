@@ -2,14 +2,14 @@
 use super::answer::Contents;
 use super::answer::Counted;
 use super::answer::Scanned;
-use super::head::BLOCK_SIZE;
-use super::head::HEAD_SIZE;
-use super::head::MOST_ENTRIES;
 use super::head::block_count;
 use super::head::entry_count;
 use super::walk::lengths_ok;
 use super::walk::total;
 use super::walk::zeros;
+use range::BLOCK_SIZE;
+use range::HEAD_SIZE;
+use range::MOST_ENTRIES;
 ghost use mathlib.Core.Path.{_≡_};
 ghost use Prim.Native.Nat.{_<_};
 ghost use lib.ListN.{length};

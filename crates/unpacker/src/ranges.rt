@@ -1,4 +1,5 @@
 // A walk from range to range: each says how long it is.
+use range::BLOCK_SIZE;
 use reader::Scanned;
 use reader::contents;
 use reader::scan_range;
@@ -7,8 +8,6 @@ ghost use Rattle.laws.specs.Choice.{ask};
 ghost use Rattle.range.specs.Form.{allEntries, allParse};
 ghost use Rattle.reader.specs.Answer.{scanned};
 ghost use Rattle.unpacker.specs.Front.{frontOf};
-
-pub(crate) const BLOCK_SIZE: usize = 4096;
 
 // The range in front of some bytes, and what it holds; or the bytes in front are none.
 enum Front {

@@ -1,6 +1,7 @@
 // The entries of ranges into replay memory: one copy of the bodies of a range and one of its lengths, range after range.
-use super::ranges::BLOCK_SIZE;
 use super::ranges::scan;
+use range::BLOCK_SIZE;
+use range::HEAD_SIZE;
 use reader::Contents;
 use reader::Scanned;
 use reader::contents;
@@ -15,8 +16,6 @@ ghost use Rattle.reader.specs.Answer.{scanned};
 ghost use Rattle.reader.specs.Range.{contentsOf};
 ghost use Rattle.unpacker.specs.Front.{InFront, frontEntries};
 ghost use Rattle.unpacker.specs.Unpack.{askUnpack, Room};
-
-const HEAD_SIZE: usize = 4;
 
 // The bodies of the range in front of s to `bytes` from `at` on, its lengths to `lens` from `n` on.
 fn unpack_range(s: &[u8], bytes: &mut [u8], at: usize, lens: &mut [u16], n: usize) -> Contents

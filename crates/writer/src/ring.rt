@@ -1,9 +1,9 @@
 // A range into the journal's ring, run by run: the head, the lengths, the bodies, the padding. Each run is cut where the ring ends.
 use super::answer::Written;
-use super::size::BLOCK_SIZE;
-use super::size::HEAD_SIZE;
 use super::size::Sized;
 use super::size::size_of_range;
+use range::BLOCK_SIZE;
+use range::HEAD_SIZE;
 use runs::fill_around;
 use runs::narrow_around;
 use runs::write_bytes_around;

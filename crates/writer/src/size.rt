@@ -2,19 +2,16 @@
 use super::answer::Written;
 use lengths::every_length_ok;
 use lengths::total;
+use range::BLOCK_SIZE;
+use range::HEAD_SIZE;
+use range::MOST_ENTRY_LENGTH;
 ghost use mathlib.Core.Path.{_≡_};
 ghost use Rattle.range.specs.Form.{blocks};
 ghost use Rattle.range.specs.Memory.{view};
 ghost use Rattle.writer.specs.Answer.{written};
 ghost use Rattle.writer.specs.Entries.{askEntries, sizedOf};
 
-pub(crate) const HEAD_SIZE: usize = 4;
-
-pub(crate) const BLOCK_SIZE: usize = 4096;
-
-const MOST_ENTRIES: u64 = 1024;
-
-const MOST_ENTRY_LENGTH: u16 = 255;
+const MOST_ENTRIES: u64 = range::MOST_ENTRIES as u64;
 
 // The bytes of the bodies and the blocks of a range, or the number of a refusal.
 pub(crate) enum Sized {
