@@ -1,16 +1,15 @@
 -- The predicates of source 002 as facts, and a law each way between them and the tests.
-use Prim.Native.Nat.{ℕ, _+_, _-_, _≤_, _<_}
-use mathlib.Core.Bool.{Bool, true, false}
-use mathlib.Core.Path.{_≡_, refl, sym, _∙_}
+use Prim.Native.Nat.{ℕ, _+_, _≤_, _<_}
+use mathlib.Core.Bool.{true}
+use mathlib.Core.Path.{_≡_}
 use mathlib.Core.Logic.{_⊎_, inl, inr, ⊎-elim}
 use native.Mathlib.Omega.{arith}
-use lib.Dec.{leb, ltb, eqb}
-use borrow.Author.Tests.{leb-true, le-leb, ltb-true, lt-ltb, eqb-true, eq-eqb}
-use Rattle.laws.specs.Choice.{also, either, ask, andThen, also-left, also-right, also-both, either-left, either-right, either-cases, ask-yes, ask-holds, andThen-left, andThen-right, andThen-both}
+use borrow.Author.Tests.{leb-true, le-leb, ltb-true, lt-ltb}
+use Rattle.laws.specs.Choice.{also-left, also-right, also-both, either-left, either-right, either-cases, ask-yes, andThen-left, andThen-right}
 use Rattle.layout.specs.declared.geometry.Geometry.{Geometry}
-use Rattle.layout.specs.Geometry.{ValidGeometry, askGeometry, geometry-asked, asked-geometry}
+use Rattle.layout.specs.Geometry.{ValidGeometry, geometry-asked}
 use Rattle.interval.specs.declared.interval.JournalInterval.{JournalInterval}
-use Rattle.interval.specs.Interval.{validJournalInterval, contiguousJournalInterval, inCyclicRange, NextStartPoint, askInterval, askIntervals, askContiguous, askInRow, askBlock}
+use Rattle.interval.specs.Interval.{validJournalInterval, contiguousJournalInterval, inCyclicRange, askInterval, askIntervals, askContiguous, askInRow, askBlock}
 
 pub record ValidJournalInterval (g : Geometry) (v : JournalInterval) : Type 0 where
   pub start-in : v .start < g .blocks

@@ -1,15 +1,13 @@
 -- Intervals: the definitions of source 002 over a start and a len in blocks, in its order. What is ghost there is a number here; "at
 -- least 0" is met by the type.
-use Prim.Native.Nat.{ℕ, _+_, _-_, _*_, _/_, _≤_, _<_}
+use Prim.Native.Nat.{ℕ, _+_, _-_, _/_}
 use mathlib.Core.Bool.{Bool, cond}
 use mathlib.Core.Option.{Option, none, some}
-use mathlib.Core.Logic.{_⊎_}
 use lib.Dec.{leb, ltb, eqb}
 use Rattle.laws.specs.Choice.{also, either, ask, andThen}
 use Rattle.layout.specs.declared.geometry.Geometry.{Geometry}
 use Rattle.layout.specs.declared.location.Location.{Location}
 use Rattle.layout.specs.Geometry.{NumJournalBlocks, JournalStartAddr, askGeometry}
-use Rattle.layout.specs.Location.{validJournalLocation}
 use Rattle.interval.specs.declared.interval.JournalInterval.{JournalInterval}
 
 abbrev pub interval : ℕ → ℕ → JournalInterval

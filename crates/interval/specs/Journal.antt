@@ -1,9 +1,9 @@
 -- The journal as source 002 sees it: a list of N blocks, each readable or not. Its own definitions, in its order; `CyclicSlice` is over any
 -- element. The bodies of `fullRange` and `concatFold` are absent from the text: a full range is one whose blocks are all readable.
-use Prim.Native.Nat.{ℕ, _+_, _-_, _≤_, _<_}
+use Prim.Native.Nat.{ℕ, _+_, _-_, _<_}
 use mathlib.Core.Bool.{Bool, true, false, cond}
 use mathlib.Core.Path.{_≡_}
-use mathlib.Core.List.{List, [], _∷_, _++_}
+use mathlib.Core.List.{List, [], _++_}
 use mathlib.Core.Option.{Option, none, some}
 use lib.Dec.{leb, ltb}
 use lib.ListN.{length, take, drop, getD}

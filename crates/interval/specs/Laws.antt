@@ -2,27 +2,26 @@
 -- a place's offset from the start going round (Rattle.laws.specs.Ring); then what the source states as `ensures`, and what intervals,
 -- slices and updates have to do with one another.
 use Prim.Native.Nat.{ℕ, _+_, _-_, _*_, _/_, _≤_, _<_}
-use mathlib.Core.Bool.{Bool, true, false, cond}
-use mathlib.Core.Path.{_≡_, refl, sym, _∙_, ap, subst, subst₂}
-use mathlib.Core.List.{List, [], _∷_, _++_, map, append-nil}
+use mathlib.Core.Bool.{true, cond}
+use mathlib.Core.Path.{_≡_, sym, _∙_, ap, subst, subst₂}
+use mathlib.Core.List.{List, [], _++_, append-nil}
 use mathlib.Core.Option.{Option, none, some}
-use mathlib.Core.Logic.{_⊎_, inl, inr, ⊎-elim, _↔_}
+use mathlib.Core.Logic.{inl, inr, ⊎-elim}
 use native.Mathlib.Omega.{arith}
-use lib.Dec.{leb, ltb, eqb}
+use lib.Dec.{ltb}
 use borrow.Author.Tests.{lt-ltb, le-ltb, le-leb, lt-leb, eq-eqb, ne-eqb, leb-true}
-use lib.ListN.{length, take, drop, getD, length-map, List·getD-map}
-use lib.Seq.{ext-getD, take-all}
-use Rattle.laws.specs.Choice.{also, also-both, also-false, false-also, true-also, by-leb, by-ltb, by-eqb, split-le, split-bool, also-left, also-right, either-cases}
-use Rattle.laws.specs.Ring.{wrap, off, by-wrap, by-off, wrap-below, wrap-past, wrap-in, wrap-add, wrap-off, off-wrap, off-in, around, spliceAround, length-around, getD-around, getD-spliceAround, length-spliceAround, around-straight, around-past, around-here, around-elsewhere, around-append, around-drop, around-none}
+use lib.ListN.{length, take, drop, getD}
+use Rattle.laws.specs.Choice.{also-false, false-also, true-also, by-leb, by-ltb, split-le, also-left, also-right, either-cases}
+use Rattle.laws.specs.Ring.{wrap, off, by-off, wrap-below, wrap-past, wrap-in, wrap-add}
+use Rattle.laws.specs.Around.{around, length-around, getD-around, around-straight, around-past, around-append, around-drop, around-none}
 use Rattle.layout.specs.declared.geometry.Geometry.{Geometry}
 use Rattle.layout.specs.declared.location.Location.{Location}
-use Rattle.layout.specs.Geometry.{ValidGeometry, JournalPoint}
 use Rattle.layout.specs.Journal.{JournalPosAdd, JournalRangeLocation}
 use Rattle.layout.specs.Laws.{ValidJournalLocation, pos-add-wrap}
 use Rattle.interval.specs.declared.interval.JournalInterval.{JournalInterval}
 use Rattle.interval.specs.Interval.{interval, JournalFrontInterval, JournalBackInterval, NextStartPoint, concatIntervals, JournalIntervalOfLocation, subinterval}
 use Rattle.interval.specs.Facts.{ValidJournalInterval, ContiguousJournalInterval, InCyclicRange}
-use Rattle.interval.specs.Journal.{JournalBlock, ValidJournal, CyclicSpliceValue, JournalUpdate, CyclicSlice}
+use Rattle.interval.specs.Journal.{JournalBlock, CyclicSpliceValue, CyclicSlice}
 
 -- the point after an interval is the ring's
 pub next-start-wrap : (g : Geometry) (v : JournalInterval) → NextStartPoint g v ≡ wrap (g .blocks) (v .start + v .len)

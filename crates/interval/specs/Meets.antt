@@ -1,16 +1,16 @@
 -- Laws of overlap, for every N: what disk, machine and history rely on. Overlap is symmetric; two intervals that share a block overlap;
 -- and two that overlap share a block unless one of them is empty.
-use Prim.Native.Nat.{ℕ, _+_, _-_, _≤_, _<_, max}
+use Prim.Native.Nat.{_+_, _-_, _≤_, _<_, max}
 use mathlib.Core.Bool.{Bool, true, false, cond}
-use mathlib.Core.Path.{_≡_, refl, sym, _∙_, ap}
-use mathlib.Core.Logic.{_⊎_, inl, inr, ⊎-elim, _↔_}
+use mathlib.Core.Path.{_≡_, refl, sym, _∙_}
+use mathlib.Core.Logic.{inl, inr, ⊎-elim, _↔_}
 use native.Mathlib.Omega.{arith}
 use lib.Dec.{ltb}
 use borrow.Author.Tests.{lt-ltb, ltb-true}
-use Rattle.laws.specs.Choice.{also, either, also-left, also-right, also-both, also-comm, either-left, either-right, either-cases, by-ltb, true-false}
+use Rattle.laws.specs.Choice.{also-left, also-right, also-both, also-comm, either-left, either-right, either-cases, by-ltb, true-false}
 use Rattle.layout.specs.declared.geometry.Geometry.{Geometry}
 use Rattle.interval.specs.declared.interval.JournalInterval.{JournalInterval}
-use Rattle.interval.specs.Facts.{ValidJournalInterval, InCyclicRange}
+use Rattle.interval.specs.Facts.{ValidJournalInterval}
 use Rattle.interval.specs.Overlap.{journalIntervalOverlap, upToEnd, fromZero, overlapParts, journalCyclicIntervalOverlap}
 use Rattle.interval.specs.Update.{Shares}
 

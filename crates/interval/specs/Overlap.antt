@@ -1,8 +1,8 @@
 -- Overlap: source 002's two definitions. An empty interval strictly inside another overlaps it, but not at block 0 of one that wraps, and
 -- two intervals that both pass the ring's end always overlap. Others rely on the laws of overlap in Laws, not on this text.
-use Prim.Native.Nat.{ℕ, _+_, _-_}
+use Prim.Native.Nat.{_+_, _-_}
 use mathlib.Core.Bool.{Bool, true, cond}
-use lib.Dec.{leb, ltb}
+use lib.Dec.{ltb}
 use Rattle.laws.specs.Choice.{also, either}
 use Rattle.layout.specs.declared.geometry.Geometry.{Geometry}
 use Rattle.layout.specs.Geometry.{NumJournalBlocks}

@@ -1,23 +1,24 @@
 -- Laws of journal updates, for every N: an update writes its blocks around the ring, its interval then shows them, and an interval that
 -- shares no block with it shows what it showed before.
-use Prim.Native.Nat.{ℕ, _+_, _-_, _≤_, _<_}
-use mathlib.Core.Bool.{Bool, true, false, cond}
-use mathlib.Core.Path.{_≡_, refl, sym, _∙_, ap, subst}
-use mathlib.Core.List.{List, [], _∷_, map}
+use Prim.Native.Nat.{ℕ, _+_, _≤_, _<_}
+use mathlib.Core.Bool.{cond}
+use mathlib.Core.Path.{_≡_, sym, _∙_, ap}
+use mathlib.Core.List.{List, [], map}
 use mathlib.Core.Option.{Option, none, some}
 use native.Mathlib.Omega.{arith}
 use lib.Dec.{ltb}
 use borrow.Author.Tests.{lt-ltb, le-ltb}
-use lib.ListN.{length, getD, length-map, List·getD-map}
+use lib.ListN.{length, getD, length-map}
 use lib.Seq.{ext-getD}
 use Rattle.laws.specs.Choice.{split-le}
 use Rattle.laws.specs.Part.{getD-map-in}
-use Rattle.laws.specs.Ring.{wrap, off, wrap-in, off-wrap, around, spliceAround, length-spliceAround, getD-spliceAround, around-here, around-elsewhere}
+use Rattle.laws.specs.Ring.{wrap, off, wrap-in, off-wrap}
+use Rattle.laws.specs.Around.{around, spliceAround, length-spliceAround, getD-spliceAround, around-here, around-elsewhere}
 use Rattle.layout.specs.declared.geometry.Geometry.{Geometry}
 use Rattle.interval.specs.declared.interval.JournalInterval.{JournalInterval}
 use Rattle.interval.specs.Facts.{ValidJournalInterval, InCyclicRange}
 use Rattle.interval.specs.Journal.{JournalBlock, ValidJournal, CyclicSpliceValue, JournalUpdate, CyclicSlice}
-use Rattle.interval.specs.Laws.{splice-value-off, in-range-off, off-in-range, slice-around}
+use Rattle.interval.specs.Laws.{splice-value-off, off-in-range, slice-around}
 
 -- the journal after an update, computed
 unfoldable pub updated : List (Option JournalBlock) → JournalInterval → List JournalBlock → List (Option JournalBlock)

@@ -1,20 +1,20 @@
 -- The lent blocks and marks as source 002's journal: a list of N blocks, each readable or none. Slices, updates and full ranges of lent
 -- memory are the source's, for every N.
-use Prim.Native.Nat.{ℕ, suc, _+_, _-_, _*_, _≤_, _<_}
-use mathlib.Core.Bool.{Bool, true, false, cond}
-use mathlib.Core.Path.{_≡_, refl, sym, _∙_, ap}
-use mathlib.Core.List.{List, [], _∷_, map}
+use Prim.Native.Nat.{ℕ, _+_, _*_, _≤_, _<_}
+use mathlib.Core.Bool.{true, cond}
+use mathlib.Core.Path.{_≡_, sym, _∙_, ap}
+use mathlib.Core.List.{List, [], map}
 use mathlib.Core.Option.{Option, none, some}
 use native.Mathlib.Omega.{arith}
-use native.Mathlib.Nat.{add-assoc}
 use lib.Dec.{ltb, eqb}
-use borrow.Author.Tests.{lt-ltb, le-ltb, eq-eqb, eqb-true}
-use lib.ListN.{length, take, drop, getD, replicate, length-take, length-drop, length-map, length-replicate, getD-replicate}
-use lib.Seq.{ext-getD, getD-take, getD-drop, length-take-le}
+use borrow.Author.Tests.{lt-ltb, le-ltb}
+use lib.ListN.{length, take, drop, getD, replicate, length-map, length-replicate, getD-replicate}
+use lib.Seq.{ext-getD, getD-take, getD-drop}
 use Rattle.laws.specs.Choice.{split-le, split-bool}
-use Rattle.laws.specs.Fold.{every, every-at, every-same}
+use Rattle.laws.specs.Fold.{every-at, every-same}
 use Rattle.laws.specs.Part.{tab, length-tab, getD-tab, getD-map-in, length-part}
-use Rattle.laws.specs.Ring.{wrap, off, wrap-in, wrap-scaled, off-scaled, around, length-around, getD-around, spliceAround, length-spliceAround, getD-spliceAround}
+use Rattle.laws.specs.Ring.{wrap, off, wrap-in, wrap-scaled, off-scaled}
+use Rattle.laws.specs.Around.{length-around, getD-around, length-spliceAround, getD-spliceAround}
 use Rattle.layout.specs.declared.geometry.Geometry.{Geometry}
 use Rattle.layout.specs.Geometry.{NumJournalBlocks}
 use Rattle.interval.specs.declared.interval.JournalInterval.{JournalInterval}

@@ -2,19 +2,18 @@
 -- of lent bytes and marks are source 002's.
 use Prim.Native.Nat.{ℕ, _+_, _-_, _*_, _≤_, _<_, min}
 use mathlib.Core.Bool.{Bool, true, false}
-use mathlib.Core.Path.{_≡_, refl, sym, _∙_, ap}
-use mathlib.Core.List.{List, [], _∷_, _++_}
+use mathlib.Core.Path.{_≡_, sym, _∙_, ap}
+use mathlib.Core.List.{List, _++_}
 use native.Mathlib.Omega.{arith}
 use native.Mathlib.Nat.{sub-zero}
-use lib.Dec.{eqb}
 use borrow.Author.Tests.{eqb-true, le-leb, lt-leb, eq-eqb, ne-eqb}
-use lib.ListN.{length, take, drop, replicate, length-take, length-drop, length-append, length-replicate}
+use lib.ListN.{length, take, drop, replicate, length-take, length-replicate}
 use lib.Seq.{take-all}
 use Rattle.laws.specs.Choice.{also, ask-yes, andThen-left, andThen-right, also-left, also-right}
 use Rattle.laws.specs.Fold.{every, every-append}
 use Rattle.laws.specs.Part.{length-part}
 use Rattle.laws.specs.Splice.{splice, clipped, clipped-fits, length-clipped, splice-then}
-use Rattle.laws.specs.Ring.{around, around-parts, spliceAround}
+use Rattle.laws.specs.Around.{around, around-parts, spliceAround}
 use Rattle.layout.specs.declared.geometry.Geometry.{Geometry}
 use Rattle.layout.specs.Geometry.{ValidGeometry, geometry-asked}
 use Rattle.interval.specs.declared.interval.JournalInterval.{JournalInterval}

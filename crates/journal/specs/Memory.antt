@@ -1,19 +1,17 @@
 -- The journal in lent memory: document 01's "Disk" lends N blocks of 4,096 bytes and N marks (1 readable, 0 not). Source 002's slices and
 -- updates over it, one for bytes and one for marks, and the questions that they ask.
-use Prim.Native.Nat.{ℕ, _+_, _*_}
-use mathlib.Core.Bool.{Bool, true, false, cond}
+use Prim.Native.Nat.{ℕ, _*_}
+use mathlib.Core.Bool.{Bool, cond}
 use mathlib.Core.List.{List}
 use lib.Dec.{eqb, leb}
 use lib.ListN.{length, replicate}
-use Rattle.laws.specs.Choice.{also, either, ask, andThen, unless}
+use Rattle.laws.specs.Choice.{also, ask, andThen}
 use Rattle.laws.specs.Fold.{every}
-use Rattle.laws.specs.Splice.{splice}
-use Rattle.laws.specs.Ring.{around, spliceAround}
+use Rattle.laws.specs.Around.{around, spliceAround}
 use Rattle.layout.specs.declared.geometry.Geometry.{Geometry}
 use Rattle.layout.specs.Geometry.{NumJournalBlocks, askGeometry}
 use Rattle.interval.specs.declared.interval.JournalInterval.{JournalInterval}
 use Rattle.interval.specs.Interval.{validJournalInterval}
-use Rattle.interval.specs.Journal.{CyclicSlice}
 use Rattle.journal.specs.declared.journal.Copied.{Copied}
 use Rattle.journal.specs.declared.journal.Copied.the-variants as copied
 

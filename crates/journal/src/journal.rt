@@ -8,7 +8,7 @@ ghost use Prim.Native.Nat.{_+_, _*_, _≤_};
 ghost use Rattle.laws.specs.Choice.{unless};
 ghost use Rattle.laws.specs.Fold.{every};
 ghost use Rattle.laws.specs.Splice.{splice};
-ghost use Rattle.laws.specs.Ring.{around};
+ghost use Rattle.laws.specs.Around.{around};
 ghost use Rattle.layout.specs.Answer.{decided};
 ghost use Rattle.interval.specs.Interval.{validJournalInterval};
 ghost use Rattle.journal.specs.Laws.{Around};

@@ -2,12 +2,11 @@
 -- the bodies of a range. Over any element. Assumes nothing.
 use Prim.Native.Nat.{ℕ, zero, suc, _+_, _-_, _≤_, _<_}
 use mathlib.Core.Path.{_≡_, refl, sym, _∙_, ap}
-use mathlib.Core.List.{List, [], _∷_, _++_, append-assoc, map}
-use native.Mathlib.Nat.{add-zero, zero-add, add-assoc}
+use mathlib.Core.List.{List, [], _∷_, _++_, append-assoc}
 use native.Mathlib.Omega.{arith}
 use lib.ListN.{length, take, drop, getD, length-append, length-drop}
-use lib.Seq.{length-take-le, take-append-le, drop-append-le, take-at, drop-at, take-add, drop-drop, take-take, take-nil, drop-nil}
-use Rattle.laws.specs.Fold.{sum, sum-append}
+use lib.Seq.{length-take-le, take-at, drop-at, take-add, drop-drop, take-take}
+use Rattle.laws.specs.Fold.{sum}
 use Rattle.laws.specs.Part.{drop-take}
 
 module _ {ℓ} {A : Type ℓ} where

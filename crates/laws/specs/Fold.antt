@@ -1,6 +1,6 @@
 -- Folds over lists: the sum of numbers, a test that every element meets, and whether two lists of numbers are equal. A loop speaks of
 -- what is left, `drop i xs`: a turn takes one element off, and the early exit, the next turn and the end are a law each. Assumes nothing.
-use Prim.Native.Nat.{ℕ, zero, suc, _+_, _*_, _-_, _≤_, _<_}
+use Prim.Native.Nat.{ℕ, zero, suc, _+_, _*_, _≤_, _<_}
 use mathlib.Core.Bool.{Bool, true, false}
 use mathlib.Core.Path.{_≡_, refl, sym, _∙_, ap}
 use mathlib.Core.List.{List, [], _∷_, _++_}
@@ -8,7 +8,7 @@ use native.Mathlib.Nat.{add-zero, zero-add, add-assoc, mul-suc}
 use native.Mathlib.Omega.{arith}
 use lib.Dec.{eqb}
 use borrow.Author.Tests.{eq-eqb, ne-eqb, eqb-true}
-use lib.ListN.{length, take, drop, getD, replicate, length-drop, drop-of-length-le, take-append-drop}
+use lib.ListN.{length, take, drop, getD, replicate, take-append-drop}
 use Rattle.laws.specs.Choice.{also, also-left, also-right, also-both, false-true, not-so}
 use Rattle.laws.specs.Part.{drop-step, take-step, drop-end}
 

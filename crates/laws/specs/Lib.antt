@@ -4,3 +4,4 @@ pub mod Splice
 pub mod Fold
 pub mod Cut
 pub mod Ring
+pub mod Around

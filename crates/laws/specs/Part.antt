@@ -2,12 +2,12 @@
 -- definition has, and take the next element off what is left. Over any element. Assumes nothing.
 use Prim.Native.Nat.{ℕ, zero, suc, _+_, _-_, _≤_, _<_, min}
 use mathlib.Core.Path.{_≡_, refl, sym, _∙_, ap}
-use mathlib.Core.List.{List, [], _∷_, _++_, append-assoc, append-nil, map}
+use mathlib.Core.List.{List, [], _∷_, _++_, append-nil, map}
 use native.Mathlib.Nat.{sub-zero, zero-sub, zero-min, min-zero, min-eq-left, min-eq-right, le-of-lt}
 use native.Mathlib.Numerals.{add-one}
 use native.Mathlib.Omega.{arith}
-use lib.ListN.{length, take, drop, getD, length-append, length-take, length-drop, take-append-drop, drop-of-length-le, replicate}
-use lib.Seq.{drop-cons, take-all, take-append-le, drop-append-le, take-append-add, drop-append-add, getD-append-add, take-suc, drop-drop, length-take-le, take-add, take-nil, take-take, drop-at}
+use lib.ListN.{length, take, drop, getD, length-drop, take-append-drop, drop-of-length-le, replicate}
+use lib.Seq.{drop-cons, take-all, take-suc, drop-drop, length-take-le, take-add, take-nil, take-take, drop-at}
 use Rattle.laws.specs.Choice.{split-le}
 
 -- the lesser of two, less a number that neither is below

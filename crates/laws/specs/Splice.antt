@@ -1,16 +1,14 @@
 -- Writes. Every write to lent memory is one definition, `splice`: the list with a run of elements from a place on. Its laws say what a
 -- loop's next store does, how a run follows a run, and what a reader finds before, in and after it. Over any element. Assumes nothing.
-use Prim.Native.Nat.{ℕ, zero, suc, _+_, _-_, _≤_, _<_, min}
-use mathlib.Core.Bool.{Bool, cond}
+use Prim.Native.Nat.{ℕ, suc, _+_, _-_, _≤_, _<_, min}
 use mathlib.Core.Path.{_≡_, refl, sym, _∙_, ap}
 use mathlib.Core.List.{List, [], _∷_, _++_, append-assoc, append-nil, map}
-use native.Mathlib.Nat.{add-zero, zero-add, add-assoc, sub-zero}
-use native.Mathlib.Numerals.{add-one}
+use native.Mathlib.Nat.{add-zero, zero-add, add-assoc}
 use native.Mathlib.Omega.{arith}
-use lib.ListN.{length, take, drop, getD, set, replicate, length-append, length-take, length-drop, length-set, length-replicate, replicate-append-replicate, take-append-drop, drop-of-length-le, List·getD-append, List·getD-map, length-map}
-use lib.Seq.{length-take-le, take-all, drop-length, take-append-le, drop-append-le, take-at, drop-at, take-add, drop-drop, take-take, take-suc, drop-cons, set-at, getD-take, getD-drop, getD-append-add, ext-getD}
+use lib.ListN.{length, take, drop, getD, set, replicate, length-append, length-take, length-drop, length-replicate, replicate-append-replicate, take-append-drop, List·getD-append, List·getD-map, length-map}
+use lib.Seq.{length-take-le, take-all, take-at, drop-at, take-add, drop-drop, take-take, drop-cons, set-at, getD-take, getD-drop}
 use Rattle.laws.specs.Choice.{split-le}
-use Rattle.laws.specs.Part.{drop-step, take-step, take-min, three-parts, length-part, drop-take, take-replicate}
+use Rattle.laws.specs.Part.{take-step, take-min, length-part, drop-take, take-replicate}
 
 -- d with the elements of s from the place `at` on
 unfoldable pub splice {ℓ} : {A : Type ℓ} → List A → ℕ → List A → List A

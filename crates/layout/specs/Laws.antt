@@ -1,16 +1,15 @@
 -- Laws of source 003: its predicates as records of facts, and what it states as `ensures`.
 use Prim.Native.Nat.{ℕ, _+_, _-_, _*_, _/_, _%_, _≤_, _<_}
-use mathlib.Core.Bool.{Bool, true, false}
-use mathlib.Core.Path.{_≡_, refl, sym, _∙_, ap}
+use mathlib.Core.Bool.{true}
+use mathlib.Core.Path.{_≡_, refl, ap}
 use mathlib.Core.Logic.{_⊎_, inl, inr, ⊎-elim}
 use native.Mathlib.Omega.{arith}
-use lib.Dec.{leb, ltb, eqb}
 use borrow.Author.Tests.{leb-true, le-leb, ltb-true, lt-ltb, eqb-true, eq-eqb}
-use Rattle.laws.specs.Choice.{also, either, ask, andThen, also-left, also-right, also-both, either-left, either-right, either-cases, ask-yes, ask-holds, andThen-left, andThen-right, andThen-both}
+use Rattle.laws.specs.Choice.{also-left, also-right, also-both, either-left, either-right, either-cases, ask-yes, ask-holds, andThen-left, andThen-right, andThen-both}
 use Rattle.laws.specs.Ring.{wrap}
 use Rattle.layout.specs.declared.geometry.Geometry.{Geometry}
 use Rattle.layout.specs.declared.location.Location.{Location}
-use Rattle.layout.specs.Geometry.{NumJournalBlocks, IndirectionTable1Addr, IndirectionTable2Addr, JournalPoint, askGeometry, ValidGeometry, geometry-asked, asked-geometry}
+use Rattle.layout.specs.Geometry.{IndirectionTable1Addr, IndirectionTable2Addr, JournalPoint, ValidGeometry, geometry-asked, asked-geometry}
 use Rattle.layout.specs.Location.{validIndirectionTableAddr, wholeBlocks, validJournalLocation, validIndirectionTableLocation, sameLocation, Superblock1Location, Superblock2Location, validSuperblock1Location, validSuperblock2Location, validSuperblockLocation}
 use Rattle.layout.specs.Journal.{JournalRangeLocation, JournalPosAdd, JournalBlockIdx, askPoint, askRange, askCircular, askJournalLocation}
 

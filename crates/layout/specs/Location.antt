@@ -1,12 +1,12 @@
 -- Locations: the definitions of source 003 over a byte address and a length, in its order. Node locations are left out: their sizes are
 -- not given. Each is a test; those that proofs take apart have their clauses as a record of facts in Laws.
 use Prim.Native.Nat.{ℕ, _+_, _-_, _*_, _/_, _%_}
-use mathlib.Core.Bool.{Bool, cond}
+use mathlib.Core.Bool.{Bool}
 use lib.Dec.{leb, ltb, eqb}
 use Rattle.laws.specs.Choice.{also, either}
 use Rattle.layout.specs.declared.geometry.Geometry.{Geometry}
 use Rattle.layout.specs.declared.location.Location.{Location}
-use Rattle.layout.specs.Geometry.{NumJournalBlocks, IndirectionTableMaxLength, IndirectionTable1Addr, IndirectionTable2Addr, JournalPoint}
+use Rattle.layout.specs.Geometry.{NumJournalBlocks, IndirectionTableMaxLength, IndirectionTable1Addr, IndirectionTable2Addr}
 
 unfoldable pub validIndirectionTableAddr : Geometry → ℕ → Bool
 validIndirectionTableAddr g addr =

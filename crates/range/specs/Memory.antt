@@ -10,7 +10,8 @@ use lib.ListN.{length, take, drop, getD, replicate}
 use lib.Seq.{take-take, length-take-le, getD-take, take-add}
 use Rattle.laws.specs.Part.{drop-take, length-part}
 use Rattle.laws.specs.Splice.{splice, take-splice, take-splice-through, part-splice}
-use Rattle.laws.specs.Ring.{wrap, spliceAround}
+use Rattle.laws.specs.Ring.{wrap}
+use Rattle.laws.specs.Around.{spliceAround}
 use Rattle.laws.specs.Fold.{sum, every, sum-append}
 use Rattle.laws.specs.Cut.{cut, flat, lengths, length-flat, length-cut, lengths-cut, flat-cut, cut-flat, cut-at, cut-append, cut-enough, cut-take, cut-drop}
 use Rattle.range.specs.Form.{Entry, BlockSize, MostEntries, HeadSize, lengthBytes, used, blocksFor, usedAt, blocksAt, encodeAt, okLength, Good}

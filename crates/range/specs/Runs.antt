@@ -5,7 +5,8 @@ use mathlib.Core.Path.{_≡_, refl, sym, _∙_, ap}
 use mathlib.Core.List.{List, [], _∷_, _++_}
 use native.Mathlib.Omega.{arith}
 use lib.ListN.{length, length-append, length-replicate}
-use Rattle.laws.specs.Ring.{wrap, spliceAround, spliceAround-then}
+use Rattle.laws.specs.Ring.{wrap}
+use Rattle.laws.specs.Around.{spliceAround, spliceAround-then}
 use Rattle.laws.specs.Cut.{flat, lengths, length-lengths, length-flat}
 use Rattle.range.specs.Form.{Entry, BlockSize, HeadSize, lowFirst, lengthBytes, usedAt, blocksAt, encodeAt}
 use Rattle.range.specs.Bytes.{length-lowFirst, low-two, length-lengthBytes}

@@ -7,7 +7,7 @@ use super::run::fill;
 use super::run::write_bytes;
 ghost use mathlib.Core.Path.{_≡_};
 ghost use lib.ListN.{length, replicate, take};
-ghost use Rattle.laws.specs.Ring.{spliceAround};
+ghost use Rattle.laws.specs.Around.{spliceAround};
 ghost use Rattle.runs.specs.Low.{lowBytes};
 
 pub fn write_bytes_around(src: &[u8], dst: &mut [u8], at: usize)

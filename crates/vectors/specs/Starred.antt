@@ -1,8 +1,8 @@
 -- The starred lines of document 01's brew day at N = 8, T = 4,096, as one proved table: a field for each fact of a line, in the paper's order.
-use Prim.Native.Nat.{ℕ, _+_}
+use Prim.Native.Nat.{ℕ}
 use mathlib.Core.Bool.{true, false}
 use mathlib.Core.Path.{_≡_, refl}
-use mathlib.Core.List.{List, [], _∷_, _++_}
+use mathlib.Core.List.{[], _∷_, _++_}
 use mathlib.Core.Option.{none, some}
 use lib.ListN.{replicate}
 use Rattle.laws.specs.Choice.{also, either}

@@ -11,7 +11,8 @@ use lib.Seq.{take-all, length-take-le}
 use lib.Dec.{leb, ltb, eqb}
 use borrow.Author.Tests.{lt-ltb, le-ltb, le-leb, lt-leb, eqb-true, leb-true, ltb-true}
 use Rattle.laws.specs.Choice.{also, ask, andThen, unless, also-left, also-right, andThen-left, andThen-right, ask-yes, andThen-first, unless-kept, unless-done}
-use Rattle.laws.specs.Ring.{wrap, around, spliceAround, wrap-below, length-spliceAround, around-here}
+use Rattle.laws.specs.Ring.{wrap, wrap-below}
+use Rattle.laws.specs.Around.{around, spliceAround, length-spliceAround, around-here}
 use Rattle.range.specs.Form.{BlockSize, MostEntryLength, LengthWidth, HeadSize, used, blocksFor, blocks, encode, parse}
 use Rattle.range.specs.Blocks.{blocks-hold, good-blocks, format-sizes, length-encodeAt}
 use Rattle.range.specs.Round.{parse-encode}

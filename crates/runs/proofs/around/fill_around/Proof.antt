@@ -1,6 +1,6 @@
 use borrow.Author.Needs.{needs}
 use native.Mathlib.Omega.{arith}
-use Rattle.laws.specs.Ring.{around-fill}
+use Rattle.laws.specs.Around.{around-fill}
 use Rattle.runs.proofs.around.fill_around.Statement.{statement}
 use Rattle.runs.proofs.around.fill_around.Tie as tie
 

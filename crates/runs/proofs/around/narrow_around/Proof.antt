@@ -2,7 +2,7 @@ use Prim.Native.Nat.{_-_}
 use borrow.Author.Needs.{needs}
 use mathlib.Core.Path.{_∙_, ap}
 use native.Mathlib.Omega.{arith}
-use Rattle.laws.specs.Ring.{around-two}
+use Rattle.laws.specs.Around.{around-two}
 use Rattle.laws.specs.Splice.{clipped}
 use Rattle.runs.specs.Low.{lowBytes, length-lowBytes, lowBytes-part}
 use Rattle.runs.proofs.around.narrow_around.Statement.{statement}

@@ -1,6 +1,6 @@
 use borrow.Author.Needs.{needs}
 use native.Mathlib.Omega.{arith}
-use Rattle.laws.specs.Ring.{around-two}
+use Rattle.laws.specs.Around.{around-two}
 use Rattle.runs.proofs.around.write_bytes_around.Statement.{statement}
 use Rattle.runs.proofs.around.write_bytes_around.Tie as tie
 
