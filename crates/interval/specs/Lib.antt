@@ -4,3 +4,5 @@ pub mod Overlap
 pub mod Journal
 pub mod Facts
 pub mod Laws
+pub mod Update
+pub mod Meets

@@ -15,12 +15,17 @@ journalIntervalOverlap a b =
     also (ltb (b .start) (a .start + a .len))
     (ltb (a .start) (b .start + b .len))
 
--- the parts of an interval that passes the end
+-- the parts of an interval that passes the end, and whether one of them overlaps a contiguous interval
 abbrev pub upToEnd : Geometry → JournalInterval → JournalInterval
 upToEnd g a = interval (a .start) (NumJournalBlocks g - a .start)
 
 abbrev pub fromZero : Geometry → JournalInterval → JournalInterval
 fromZero g a = interval 0 (a .len - (NumJournalBlocks g - a .start))
+
+unfoldable pub overlapParts : Geometry → JournalInterval → JournalInterval → Bool
+overlapParts g a b =
+    either (journalIntervalOverlap (upToEnd g a) b)
+    (journalIntervalOverlap (fromZero g a) b)
 
 -- of two valid intervals
 unfoldable pub journalCyclicIntervalOverlap : Geometry → JournalInterval → JournalInterval → Bool
@@ -28,7 +33,7 @@ journalCyclicIntervalOverlap g a b =
     cond (ltb (NumJournalBlocks g) (a .start + a .len))
     (cond (ltb (NumJournalBlocks g) (b .start + b .len))
     true
-    (either (journalIntervalOverlap (upToEnd g a) b) (journalIntervalOverlap (fromZero g a) b)))
+    (overlapParts g a b))
     (cond (ltb (NumJournalBlocks g) (b .start + b .len))
-    (either (journalIntervalOverlap (upToEnd g b) a) (journalIntervalOverlap (fromZero g b) a))
+    (overlapParts g b a)
     (journalIntervalOverlap a b))

@@ -5,6 +5,7 @@ use Prim.Native.Nat.{ℕ, suc, _+_, _-_, _≤_, _<_}
 use mathlib.Core.Bool.{Bool, true, false, cond, not}
 use mathlib.Core.Path.{_≡_, refl, sym, _∙_, ap, subst}
 use mathlib.Core.Logic.{_⊎_, inl, inr}
+use mathlib.Core.Option.{none, some}
 use native.Mathlib.Omega.{arith}
 use lib.Dec.{leb, ltb, eqb}
 use borrow.Author.Tests.{lt-ltb, le-ltb, le-leb, lt-leb, eq-eqb, ne-eqb, leb-true, leb-false, ltb-true, ltb-false, eqb-true, eqb-false}
@@ -59,6 +60,26 @@ pub also-both : (a b : Bool) → a ≡ true → b ≡ true → also a b ≡ true
 unfolding also
 also-both true b p q = q
 also-both false b p q = p
+
+pub also-comm : (a b : Bool) → also a b ≡ also b a
+unfolding also
+also-comm true true = refl
+also-comm true false = refl
+also-comm false true = refl
+also-comm false false = refl
+
+pub also-false : (a : Bool) → also a false ≡ false
+unfolding also
+also-false true = refl
+also-false false = refl
+
+pub false-also : (b : Bool) → also false b ≡ false
+unfolding also
+false-also b = refl
+
+pub true-also : (b : Bool) → also true b ≡ b
+unfolding also
+true-also b = refl
 
 -- a disjunction
 pub either-left : (a b : Bool) → a ≡ true → either a b ≡ true
@@ -163,6 +184,16 @@ split-eq {P = P} m n f g = by-eqb (λ (u : Unit {0}). P) m n tt tt f g
 pub split-bool {κ} : {P : Type κ} (b : Bool) → (b ≡ true → P) → (b ≡ false → P) → P
 split-bool true f g = f refl
 split-bool false f g = g refl
+
+-- a test that can't hold
+pub not-so : (b : Bool) → (b ≡ true → ⊥) → b ≡ false
+not-so true h = absurd (h refl)
+not-so false h = refl
+
+-- an option that is given where a test holds
+pub cond-some {ℓ} : {A : Type ℓ} (b : Bool) (x y : A) → cond b (some x) none ≡ some y → (b ≡ true) × (x ≡ y)
+cond-some true x y e = (refl, cc)
+cond-some false x y e = ruin (cc)
 
 -- two tests that hold in the same cases are equal
 pub same-test : (a b : Bool) → (a ≡ true → b ≡ true) → (b ≡ true → a ≡ true) → a ≡ b

@@ -20,6 +20,11 @@ unfoldable pub every {ℓ} : {A : Type ℓ} → (A → Bool) → List A → Bool
 every p [] = true
 every p (x ∷ xs) = also (p x) (every p xs)
 
+-- every element has the property
+abbrev pub Each {ℓ κ} : {A : Type ℓ} → (A → Type κ) → List A → Type κ
+Each P [] = Unit
+Each P (x ∷ xs) = P x × Each P xs
+
 pub sum-append : (xs ys : List ℕ) → sum (xs ++ ys) ≡ sum xs + sum ys
 unfolding sum
 sum-append [] ys = sym (zero-add (sum ys))
@@ -98,6 +103,24 @@ module _ {ℓ} {A : Type ℓ} (p : A → Bool) where
   unfolding every
   every-replicate zero x e = refl
   every-replicate (suc n) x e = also-both (p x) (every p (replicate n x)) e (every-replicate n x e)
+
+module _ {ℓ κ} {A : Type ℓ} (P : A → Type κ) where
+  pub each-append : (xs ys : List A) → Each P xs → Each P ys → Each P (xs ++ ys)
+  each-append [] ys p q = q
+  each-append (x ∷ xs) ys p q = (p .0, each-append xs ys (p .1) q)
+
+  pub each-left : (xs ys : List A) → Each P (xs ++ ys) → Each P xs
+  each-left [] ys p = tt
+  each-left (x ∷ xs) ys p = (p .0, each-left xs ys (p .1))
+
+  pub each-right : (xs ys : List A) → Each P (xs ++ ys) → Each P ys
+  each-right [] ys p = p
+  each-right (x ∷ xs) ys p = each-right xs ys (p .1)
+
+  pub each-at : (xs : List A) (i : ℕ) (d : A) → Each P xs → i < length xs → P (getD xs i d)
+  each-at [] i d p h = absurd (omega arith)
+  each-at (x ∷ xs) zero d p h = p .0
+  each-at (x ∷ xs) (suc i) d p h = each-at xs i d (p .1) (omega arith)
 
 -- a bound on each number bounds the sum
 pub sum-bound : (k : ℕ) (xs : List ℕ) → ((i : ℕ) → i < length xs → getD xs i 0 ≤ k) → sum xs ≤ k * length xs

@@ -2,7 +2,7 @@
 -- definition has, and take the next element off what is left. Over any element. Assumes nothing.
 use Prim.Native.Nat.{ℕ, zero, suc, _+_, _-_, _≤_, _<_, min}
 use mathlib.Core.Path.{_≡_, refl, sym, _∙_, ap}
-use mathlib.Core.List.{List, [], _∷_, _++_, append-assoc, append-nil}
+use mathlib.Core.List.{List, [], _∷_, _++_, append-assoc, append-nil, map}
 use native.Mathlib.Nat.{sub-zero, min-eq-left, min-eq-right, le-of-lt}
 use native.Mathlib.Numerals.{add-one}
 use native.Mathlib.Omega.{arith}
@@ -63,6 +63,22 @@ module _ {ℓ} {A : Type ℓ} where
       let e : a + (n - a) ≡ n = omega arith in
       rw (← e) (rw (drop-take a (n - a) xs) (take-take k (n - a) (drop a xs) (omega arith)))
 
+  -- a part and what stands behind it
+  pub part-then : (xs : List A) (a k : ℕ) → take k (drop a xs) ++ drop (a + k) xs ≡ drop a xs
+  part-then xs a k = rw (← (drop-drop k a xs)) (take-append-drop k (drop a xs))
+
   -- a list is its front, a part and the rest
   pub three-parts : (xs : List A) (a k : ℕ) → take a xs ++ take k (drop a xs) ++ drop (a + k) xs ≡ xs
   three-parts xs a k = rw (← (take-add a k xs)) (take-append-drop (a + k) xs)
+
+  -- an element that is there does not depend on the default
+  pub getD-any : (xs : List A) (i : ℕ) (d e : A) → i < length xs → getD xs i d ≡ getD xs i e
+  getD-any [] i d e h = absurd (omega arith)
+  getD-any (x ∷ xs) zero d e h = refl
+  getD-any (x ∷ xs) (suc i) d e h = getD-any xs i d e (omega arith)
+
+-- an element of a mapped list
+pub getD-map-in {ℓ κ} : {A : Type ℓ} {B : Type κ} (f : A → B) (xs : List A) (i : ℕ) (d : A) (e : B) → i < length xs → getD (map f xs) i e ≡ f (getD xs i d)
+getD-map-in f [] i d e h = absurd (omega arith)
+getD-map-in f (x ∷ xs) zero d e h = refl
+getD-map-in f (x ∷ xs) (suc i) d e h = getD-map-in f xs i d e (omega arith)

@@ -177,8 +177,8 @@ module _ {ℓ} {A : Type ℓ} where
       length-rest = length-drop (length d - at) s
 
   -- the interval that a write covered shows the write
-  pub around-here : (d : List A) (at : ℕ) (s : List A) (x : A) → at < length d → length s ≤ length d → around (spliceAround d at s) at (length s) ≡ s
-  around-here d at s x h k =
+  around-here-by : (d : List A) (at : ℕ) (s : List A) (x : A) → at < length d → length s ≤ length d → around (spliceAround d at s) at (length s) ≡ s
+  around-here-by d at s x h k =
       ext-getD x (around w at (length s)) s
       (length-around w at (length s) (omega (arith, long)) (omega (arith, long)))
       (λ t l.
@@ -214,17 +214,17 @@ module _ {ℓ} {A : Type ℓ} where
       ld = length-around d q m (omega (arith, k)) l
 
   -- a write that covers no place of an interval leaves what the interval shows
-  pub around-elsewhere : (d : List A) (p : ℕ) (s : List A) (q m : ℕ) (x : A) → p < length d → length s ≤ length d → q < length d → m ≤ length d
+  around-elsewhere-by : (d : List A) (p : ℕ) (s : List A) (q m : ℕ) (x : A) → p < length d → length s ≤ length d → q < length d → m ≤ length d
       → ((t : ℕ) → t < m → length s ≤ off (length d) p (wrap (length d) (q + t))) → around (spliceAround d p s) q m ≡ around d q m
-  around-elsewhere d p s q m x hp hs hq hm f =
+  around-elsewhere-by d p s q m x hp hs hq hm f =
       around-same d (spliceAround d p s) q m x (length-spliceAround d p s (omega arith) hs) hq hm
       (λ t l.
       getD-spliceAround d p s (wrap (length d) (q + t)) x hp hs (wrap-in (length d) (q + t) (omega arith))
       ∙ simp (le-ltb (off (length d) p (wrap (length d) (q + t))) (length s) (f t l)))
 
   -- an interval and the one after it
-  pub around-append : (s : List A) (at n m : ℕ) (x : A) → at < length s → n + m ≤ length s → around s at (n + m) ≡ around s at n ++ around s (wrap (length s) (at + n)) m
-  around-append s at n m x h k =
+  around-append-by : (s : List A) (at n m : ℕ) (x : A) → at < length s → n + m ≤ length s → around s at (n + m) ≡ around s at n ++ around s (wrap (length s) (at + n)) m
+  around-append-by s at n m x h k =
       ext-getD x (around s at (n + m)) (around s at n ++ around s next m) (both ∙ sym joined)
       (λ t l.
       let lt : t < n + m = omega (arith, l, both) in
@@ -287,9 +287,28 @@ module _ {ℓ} {A : Type ℓ} where
   unfolding around
   around-take s at n k h = take-take k n (drop at s ++ take at s) h
 
-  pub around-drop : (s : List A) (at n k : ℕ) (x : A) → at < length s → n ≤ length s → k ≤ n → drop k (around s at n) ≡ around s (wrap (length s) (at + k)) (n - k)
-  around-drop s at n k x h l m =
+  around-drop-by : (s : List A) (at n k : ℕ) (x : A) → at < length s → n ≤ length s → k ≤ n → drop k (around s at n) ≡ around s (wrap (length s) (at + k)) (n - k)
+  around-drop-by s at n k x h l m =
       let e : k + (n - k) ≡ n = omega arith in
       ap (λ (j : ℕ). drop k (around s at j)) (sym e)
-      ∙ ap (drop k) (around-append s at k (n - k) x h (omega arith))
+      ∙ ap (drop k) (around-append-by s at k (n - k) x h (omega arith))
       ∙ drop-at (around s at k) (around s (wrap (length s) (at + k)) (n - k)) k (length-around s at k (omega arith) (omega arith))
+
+-- the last laws again, with no element to name: a ring with a place has one
+module _ {ℓ} {A : Type ℓ} where
+  pub around-here : (d : List A) (at : ℕ) (s : List A) → at < length d → length s ≤ length d → around (spliceAround d at s) at (length s) ≡ s
+  around-here [] at s h k = absurd (omega arith)
+  around-here (y ∷ d) at s h k = around-here-by (y ∷ d) at s y h k
+
+  pub around-append : (s : List A) (at n m : ℕ) → at < length s → n + m ≤ length s → around s at (n + m) ≡ around s at n ++ around s (wrap (length s) (at + n)) m
+  around-append [] at n m h k = absurd (omega arith)
+  around-append (y ∷ s) at n m h k = around-append-by (y ∷ s) at n m y h k
+
+  pub around-elsewhere : (d : List A) (p : ℕ) (s : List A) (q m : ℕ) → p < length d → length s ≤ length d → q < length d → m ≤ length d
+      → ((t : ℕ) → t < m → length s ≤ off (length d) p (wrap (length d) (q + t))) → around (spliceAround d p s) q m ≡ around d q m
+  around-elsewhere [] p s q m hp hs hq hm f = absurd (omega arith)
+  around-elsewhere (y ∷ d) p s q m hp hs hq hm f = around-elsewhere-by (y ∷ d) p s q m y hp hs hq hm f
+
+  pub around-drop : (s : List A) (at n k : ℕ) → at < length s → n ≤ length s → k ≤ n → drop k (around s at n) ≡ around s (wrap (length s) (at + k)) (n - k)
+  around-drop [] at n k h l m = absurd (omega arith)
+  around-drop (y ∷ s) at n k h l m = around-drop-by (y ∷ s) at n k y h l m

@@ -49,7 +49,7 @@ pub fn ask_circular(g: Geometry, start: u64, len: u64) -> u8
 }
 
 // Questions 1 and 4, of a journal location.
-fn ask_journal_location(g: Geometry, loc: Location) -> u8
+pub fn ask_journal_location(g: Geometry, loc: Location) -> u8
     ensures { λ r. ⌜ r ≡ askJournalLocation g loc ⌝ }
 {
     let q = g.ask();

@@ -16,6 +16,7 @@ pub use answer::MaybeLocated;
 pub use answer::Position;
 pub use geometry::Geometry;
 pub use journal::ask_circular;
+pub use journal::ask_journal_location;
 pub use journal::journal_back_location;
 pub use journal::journal_block_idx;
 pub use journal::journal_front_location;

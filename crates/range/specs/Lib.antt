@@ -1,0 +1,10 @@
+pub mod Form
+pub mod Bytes
+pub mod Blocks
+pub mod Shape
+pub mod Round
+pub mod Ranges
+pub mod Walk
+pub mod Runs
+pub mod Memory
+pub mod BrewDay

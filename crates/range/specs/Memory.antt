@@ -1,0 +1,189 @@
+-- Entries in lent memory: their bytes back to back from the front, their lengths in order, and a count. What the memory stands for
+-- depends on the counted part alone; entries written behind it come after the old ones, and moving the rest to the front takes the first
+-- ones off. Assumes nothing.
+use Prim.Native.Nat.{ℕ, _+_, _*_, _-_, _≤_, _<_}
+use mathlib.Core.Bool.{true}
+use mathlib.Core.Path.{_≡_, refl, sym, _∙_, ap}
+use mathlib.Core.List.{List, [], _++_, append-nil}
+use native.Mathlib.Omega.{arith}
+use lib.ListN.{length, take, drop, getD, replicate}
+use lib.Seq.{take-take, length-take-le, getD-take, take-add}
+use Rattle.laws.specs.Part.{drop-take, length-part}
+use Rattle.laws.specs.Splice.{splice, take-splice, take-splice-through, part-splice}
+use Rattle.laws.specs.Fold.{sum, every, sum-append}
+use Rattle.laws.specs.Cut.{cut, flat, lengths, length-flat, length-cut, lengths-cut, flat-cut, cut-flat, cut-at, cut-append, cut-enough, cut-take, cut-drop}
+use Rattle.range.specs.Form.{Entry, BlockSize, MostEntries, HeadSize, lengthBytes, used, blocksFor, usedAt, blocksAt, encodeAt, okLength, Good}
+use Rattle.range.specs.Runs.{head, write-runs}
+
+-- the n entries that bytes and lengths hold
+unfoldable pub view : List ℕ → List ℕ → ℕ → List Entry
+view bytes lens n = cut (take n lens) bytes
+
+-- the bytes that n entries take
+abbrev pub total : List ℕ → ℕ → ℕ
+total lens n = sum (take n lens)
+
+-- the bytes after lengths were written behind the counted ones, and the bytes of the first k entries and of the others
+pub total-write : (lens ms : List ℕ) (n : ℕ) → n ≤ length lens → total (splice lens n ms) (n + length ms) ≡ total lens n + sum ms
+total-write lens ms n h = ap sum (take-splice-through lens n ms h) ∙ sum-append (take n lens) ms
+
+pub total-split : (lens : List ℕ) (n k m : ℕ) → k + m ≡ n → total lens k + total (drop k lens) m ≡ total lens n
+total-split lens n k m e =
+    sym (sum-append (take k lens) (take m (drop k lens)))
+    ∙ ap sum (sym (take-add k m lens))
+    ∙ ap (λ (j : ℕ). sum (take j lens)) e
+
+pub view-none : (bytes lens : List ℕ) → view bytes lens 0 ≡ []
+unfolding view cut
+view-none bytes lens = refl
+
+module _ (bytes lens : List ℕ) (n : ℕ) where
+  pub length-view : n ≤ length lens → length (view bytes lens n) ≡ n
+  unfolding view
+  length-view h = length-cut (take n lens) bytes ∙ length-take-le n lens h
+
+  pub lengths-view : total lens n ≤ length bytes → lengths (view bytes lens n) ≡ take n lens
+  unfolding view
+  lengths-view h = lengths-cut (take n lens) bytes h
+
+  pub flat-view : flat (view bytes lens n) ≡ take (total lens n) bytes
+  unfolding view
+  flat-view = flat-cut (take n lens) bytes
+
+  -- entry i as a part of the bytes
+  pub view-at : (i : ℕ) → i < n → n ≤ length lens → getD (view bytes lens n) i [] ≡ take (getD lens i 0) (drop (total lens i) bytes)
+  unfolding view
+  view-at i h k =
+      cut-at (take n lens) bytes i (rw (length-take-le n lens k) h)
+      ∙ (λ j. take (getD-take n lens i 0 h j) (drop (sum (take-take i n lens (omega (arith, h)) j)) bytes))
+
+  -- only what is counted is looked at
+  pub view-same : (bytes′ lens′ : List ℕ) → take n lens ≡ take n lens′ → take (total lens n) bytes ≡ take (total lens n) bytes′
+      → view bytes lens n ≡ view bytes′ lens′ n
+  unfolding view
+  view-same bytes′ lens′ p q =
+      sym (cut-enough (take n lens) bytes (total lens n) (omega arith))
+      ∙ ap (cut (take n lens)) q
+      ∙ cut-enough (take n lens) bytes′ (total lens n) (omega arith)
+      ∙ ap (λ (ns : List ℕ). cut ns bytes′) p
+
+  -- the first k entries, and those after them
+  pub view-take : (k : ℕ) → k ≤ n → take k (view bytes lens n) ≡ view bytes lens k
+  unfolding view
+  view-take k h = cut-take k (take n lens) bytes ∙ ap (λ (ns : List ℕ). cut ns bytes) (take-take k n lens h)
+
+  pub view-drop : (k : ℕ) → k ≤ n → drop k (view bytes lens n) ≡ view (drop (total lens k) bytes) (drop k lens) (n - k)
+  unfolding view
+  view-drop k h =
+      let e : k + (n - k) ≡ n = omega arith in
+      cut-drop k (take n lens) bytes
+      ∙ (λ i. cut (drop k (take (sym e i) lens)) (drop (sum (take-take k n lens h i)) bytes))
+      ∙ ap (λ (ns : List ℕ). cut ns (drop (total lens k) bytes)) (drop-take k (n - k) lens)
+
+  -- entries written behind the counted ones come after them
+  pub view-write : (cs ms : List ℕ) → n ≤ length lens → total lens n ≤ length bytes → sum ms ≤ length cs
+      → view (splice bytes (total lens n) cs) (splice lens n ms) (n + length ms) ≡ view bytes lens n ++ cut ms cs
+  unfolding view
+  view-write cs ms h k l =
+      ap (λ (ns : List ℕ). cut ns after) (take-splice-through lens n ms h)
+      ∙ cut-append (take n lens) ms after
+      ∙ (λ i. old i ++ new i)
+    where
+      after : List ℕ
+      after = splice bytes (total lens n) cs
+
+      old : cut (take n lens) after ≡ cut (take n lens) bytes
+      old =
+          sym (cut-enough (take n lens) after (total lens n) (omega arith))
+          ∙ ap (cut (take n lens)) (take-splice bytes (total lens n) cs k)
+          ∙ cut-enough (take n lens) bytes (total lens n) (omega arith)
+
+      new : cut ms (drop (total lens n) after) ≡ cut ms cs
+      new =
+          sym (cut-enough ms (drop (total lens n) after) (length cs) l)
+          ∙ ap (cut ms) (part-splice bytes (total lens n) cs k)
+
+  pub view-entries : (es : List Entry) → n ≤ length lens → total lens n ≤ length bytes
+      → view (splice bytes (total lens n) (flat es)) (splice lens n (lengths es)) (n + length (lengths es)) ≡ view bytes lens n ++ es
+  view-entries es h k =
+      view-write (flat es) (lengths es) h k (omega (arith, length-flat es))
+      ∙ ap (λ (l : List Entry). view bytes lens n ++ l) (ap (cut (lengths es)) (sym (append-nil (flat es))) ∙ cut-flat es [])
+
+-- the same for a step that has the sums in numbers of its own: k entries of other memory are added at the end
+pub view-add : (bytes lens cb cl : List ℕ) (n k t s m : ℕ) → n ≤ length lens → k ≤ length cl → t ≡ total lens n → s ≡ total cl k → t ≤ length bytes
+    → s ≤ length cb → m ≡ n + k → view (splice bytes t (take s cb)) (splice lens n (take k cl)) m ≡ view bytes lens n ++ view cb cl k
+unfolding view
+view-add bytes lens cb cl n k t s m hn hk et es ht hs em =
+    (λ i. view (splice bytes (et i) (take s cb)) (splice lens n (take k cl)) (em′ i))
+    ∙ view-write bytes lens n (take s cb) (take k cl) hn (omega (arith, et, ht)) (omega (arith, es, length-take-le s cb hs))
+    ∙ ap (λ (l : List Entry). cut (take n lens) bytes ++ l) (cut-enough (take k cl) cb s (omega (arith, es)))
+  where
+    em′ : m ≡ n + length (take k cl)
+    em′ = omega (arith, em, length-take-le k cl hk)
+
+-- the first k entries are taken off: the other m and their v bytes move to the front
+pub view-moved : (bytes lens : List ℕ) (n k m u v : ℕ) → n ≤ length lens → total lens n ≤ length bytes → k + m ≡ n → u ≡ total lens k → u + v ≡ total lens n
+    → view (splice bytes 0 (take v (drop u bytes))) (splice lens 0 (take m (drop k lens))) m ≡ drop k (view bytes lens n)
+unfolding view cut sum
+view-moved bytes lens n k m u v hn ht em eu ev =
+    ap (view (splice bytes 0 (take v (drop u bytes))) (splice lens 0 (take m (drop k lens)))) long
+    ∙ view-write bytes lens 0 (take v (drop u bytes)) (take m (drop k lens)) (omega arith) (omega arith) (omega (arith, fits, length-part bytes u v (omega (arith, ev, ht))))
+    ∙ cut-enough (take m (drop k lens)) (drop u bytes) v fits
+    ∙ (λ i. cut (take (left i) (drop k lens)) (drop (eu i) bytes))
+    ∙ sym (view-drop bytes lens n k (omega (arith, em)))
+  where
+    long : m ≡ 0 + length (take m (drop k lens))
+    long = omega (arith, length-part lens k m (omega (arith, em, hn)))
+
+    left : m ≡ n - k
+    left = omega (arith, em)
+
+    fits : total (drop k lens) m ≤ v
+    fits = omega (arith, total-split lens n k m em, eu, ev)
+
+-- the range of entries in memory: they are good by their lengths, and use what the lengths say
+module _ (w most : ℕ) (bytes lens : List ℕ) (n : ℕ) (hn : n ≤ length lens) (ht : total lens n ≤ length bytes) where
+  pub good-view : 1 ≤ n → n ≤ MostEntries → every (okLength most) (take n lens) ≡ true → Good most (view bytes lens n)
+  good-view a f e =
+      record {
+        any = rw (length-view bytes lens n hn) a;
+        few = rw (length-view bytes lens n hn) f;
+        each = rw (lengths-view bytes lens n ht) e;
+      }
+
+  pub usedAt-view : usedAt w (view bytes lens n) ≡ used w n (total lens n)
+  usedAt-view = λ i. HeadSize + length-view bytes lens n hn i * w + sum (lengths-view bytes lens n ht i)
+
+  pub blocksAt-view : blocksAt w (view bytes lens n) ≡ blocksFor (used w n (total lens n))
+  blocksAt-view = ap blocksFor usedAt-view
+
+  -- written run by run: b blocks, the lengths' bytes ls, t bytes of bodies, z zeros, at the writer's own places
+  pub write-view : (out x1 x2 x3 x4 ls : List ℕ) (at b t z p2 p3 p4 : ℕ) → b ≡ blocksFor (used w n t) → t ≡ total lens n → z + used w n t ≡ b * BlockSize
+      → at + b * BlockSize ≤ length out → ls ≡ lengthBytes w (take n lens) → p2 ≡ at + HeadSize → p3 ≡ at + HeadSize + n * w → p4 ≡ at + used w n t
+      → x1 ≡ splice out at (head b n)
+      → x2 ≡ splice x1 p2 ls
+      → x3 ≡ splice x2 p3 (take t bytes)
+      → x4 ≡ splice x3 p4 (replicate z 0)
+      → x4 ≡ splice out at (encodeAt w (view bytes lens n))
+  write-view out x1 x2 x3 x4 ls at b t z p2 p3 p4 eb et ez fits el e2 e3 e4 q1 q2 q3 q4 =
+      write-runs w (view bytes lens n) out x1 x2 x3 x4 at p2 p3 p4
+      (omega (arith, fits, blocks))
+      e2
+      (omega (arith, e3, ap (λ (m : ℕ). m * w) count))
+      (omega (arith, e4, uses))
+      (q1 ∙ (λ i. splice out at (head (blocks i) (sym count i))))
+      (q2 ∙ ap (splice x1 p2) (el ∙ ap (lengthBytes w) (sym (lengths-view bytes lens n ht))))
+      (q3 ∙ ap (splice x2 p3) (ap (λ (m : ℕ). take m bytes) et ∙ sym (flat-view bytes lens n)))
+      (q4 ∙ ap (λ (m : ℕ). splice x3 p4 (replicate m 0)) zeros)
+    where
+      count : length (view bytes lens n) ≡ n
+      count = length-view bytes lens n hn
+
+      uses : used w n t ≡ usedAt w (view bytes lens n)
+      uses = ap (used w n) et ∙ sym usedAt-view
+
+      blocks : b ≡ blocksAt w (view bytes lens n)
+      blocks = eb ∙ ap blocksFor uses
+
+      zeros : z ≡ blocksAt w (view bytes lens n) * BlockSize - usedAt w (view bytes lens n)
+      zeros = omega (arith, ez, uses, blocks)

@@ -1,0 +1,1 @@
+// The range format: its definitions and laws stand in specs/.
