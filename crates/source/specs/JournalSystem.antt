@@ -1,10 +1,10 @@
 -- Source 004, JournalSystem, up to document 01's cut: the machine with its disk, in the source's order and names. `DiskHasSuperblock1` and
 -- `2` are one predicate over the slot. A function with `requires` takes its proof; a predicate that a function decides by is beside its test.
-use Prim.Native.Nat.{ℕ, _+_, _-_}
+use Prim.Native.Nat.{ℕ, _-_}
 use mathlib.Core.Bool.{Bool, true, false, cond, not}
-use mathlib.Core.Path.{_≡_, refl, sym, _∙_, ap, subst}
+use mathlib.Core.Path.{_≡_, refl, ap}
 use mathlib.Core.List.{List, [], _++_}
-use mathlib.Core.Option.{Option, none, some, Option·some-injective, Option·none-ne-some, Option·some-ne-none}
+use mathlib.Core.Option.{Option, none, some, Option·some-injective, Option·none-ne-some}
 use lib.Dec.{eqb}
 use borrow.Author.Tests.{eqb-true, eq-eqb}
 use Rattle.laws.specs.Choice.{also, also-left, also-right, also-both, false-true}
@@ -19,7 +19,7 @@ use Rattle.interval.specs.Facts.{ValidJournalInterval}
 use Rattle.superblock.specs.declared.superblock.Superblock.{Superblock}
 use Rattle.superblock.specs.Superblock.{SelectSuperblockIndex, SelectSuperblock}
 use Rattle.superblock.specs.Laws.{WFSuperblock}
-use Rattle.source.specs.Sets.{Map, each, Two, at}
+use Rattle.source.specs.Sets.{Map, each, at}
 use Rattle.source.specs.Codec.{JournalEntry, Codec, Disk-HasJournal, Disk-Journal}
 use Rattle.source.specs.JournalDisk as D
 use Rattle.source.specs.JournalCache as M

@@ -3,3 +3,8 @@ pub mod Codec
 pub mod JournalDisk
 pub mod JournalCache
 pub mod JournalSystem
+pub mod Limits
+pub mod Departures
+pub mod Unique
+pub mod Answers
+pub mod Open

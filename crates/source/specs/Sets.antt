@@ -1,11 +1,15 @@
 -- Dafny's sets and maps as functions of the key, so that `==` is a path, and by content; and its pairs `x1`, `x2` as one record that a
 -- Bool reads and writes: false is the first (`which` 0), true the second (`which` 1), and "0 or 1" is met by the type. Assumes nothing.
-use Prim.Native.Nat.{ℕ}
+use Prim.Native.Nat.{ℕ, suc, _≤_}
 use mathlib.Core.Bool.{Bool, true, false, cond, not}
 use mathlib.Core.Path.{_≡_, refl, sym, _∙_, ap}
+use mathlib.Core.List.{List, [], _∷_}
 use mathlib.Core.Option.{Option, none, some, Option·map, Option·some-injective, Option·none-ne-some}
+use native.Mathlib.Omega.{arith}
 use lib.Dec.{eqb}
+use lib.ListN.{length}
 use borrow.Author.Tests.{eq-eqb, ne-eqb}
+use Rattle.laws.specs.Choice.{split-eq, true-false, false-true}
 
 -- set<uint64>
 abbrev pub Ids : Type 0
@@ -46,6 +50,21 @@ isKey (some a) = true
 
 abbrev pub keys : {A : Type 0} → Map A → Ids
 keys m i = isKey (m i)
+
+-- the set of a list's numbers, and a list without repeats
+unfoldable pub idsOf : List ℕ → Ids
+idsOf [] i = false
+idsOf (k ∷ ks) i = cond (eqb k i) true (idsOf ks i)
+
+unfoldable pub Distinct : List ℕ → Type 0
+Distinct [] = Unit {0}
+Distinct (k ∷ ks) = (idsOf ks k ≡ false) × Distinct ks
+
+-- |s| <= n: some list of at most n numbers has every one of s
+pub record AtMost (n : ℕ) (s : Ids) : Type 0 where
+  pub listed : List ℕ
+  pub few : length listed ≤ n
+  pub all : (i : ℕ) → s i ≡ true → idsOf listed i ≡ true
 
 -- a pair of like things
 pub record Two (A : Type 0) : Type 0 where
@@ -119,3 +138,65 @@ module _ {A : Type 0} where
 
   pub two-same : (t u : Two A) → ((w : Bool) → at t w ≡ at u w) → t ≡ u
   two-same t u f = λ i. record { first = f false i; second = f true i }
+
+-- a number's own place in a list's set, and every other
+pub idsOf-here : (k : ℕ) (ks : List ℕ) → idsOf (k ∷ ks) k ≡ true
+unfolding idsOf
+idsOf-here k ks = join-here (idsOf ks) k
+
+pub idsOf-there : (k i : ℕ) (ks : List ℕ) → (k ≡ i → ⊥) → idsOf (k ∷ ks) i ≡ idsOf ks i
+unfolding idsOf
+idsOf-there k i ks h = join-there (idsOf ks) k i h
+
+-- the list without one of its numbers is one shorter and has every other
+record Without (x : ℕ) (ks : List ℕ) : Type 0 where
+  rest : List ℕ
+  shorter : suc (length rest) ≡ length ks
+  others : (i : ℕ) → (x ≡ i → ⊥) → idsOf ks i ≡ true → idsOf rest i ≡ true
+
+without-step : (x k : ℕ) (ks : List ℕ) → (k ≡ x → ⊥) → Without x ks → Without x (k ∷ ks)
+without-step x k ks h w =
+    record {
+      rest = k ∷ w .rest;
+      shorter = ap suc (w .shorter);
+      others = λ i d e.
+          split-eq k i
+          (λ q. ap (λ (j : ℕ). idsOf (k ∷ w .rest) j) (sym q) ∙ idsOf-here k (w .rest))
+          (λ n. idsOf-there k i (w .rest) n ∙ w .others i d (sym (idsOf-there k i ks n) ∙ e));
+    }
+
+without : (x : ℕ) (ks : List ℕ) → idsOf ks x ≡ true → Without x ks
+unfolding idsOf
+without x [] e = false-true e
+without x (k ∷ ks) e =
+    split-eq k x
+    (λ q. record { rest = ks; shorter = refl; others = λ i d f. sym (idsOf-there k i ks (λ n. d (sym q ∙ n))) ∙ f })
+    (λ n. without-step x k ks n (without x ks (sym (idsOf-there k x ks n) ∙ e)))
+
+-- distinct numbers that all stand in a list are no more than it has
+pub distinct-within : (xs ks : List ℕ) → Distinct xs → ((i : ℕ) → idsOf xs i ≡ true → idsOf ks i ≡ true) → length xs ≤ length ks
+unfolding Distinct
+distinct-within [] ks d f = omega arith
+distinct-within (x ∷ xs) ks d f =
+    let w : Without x ks = without x ks (f x (idsOf-here x xs)) in
+    let h : length xs ≤ length (w .rest) =
+    distinct-within xs (w .rest) (d .1)
+    (λ i e.
+    w .others i
+    (λ q. true-false (sym e ∙ ap (idsOf xs) (sym q) ∙ d .0))
+    (f i
+    (split-eq x i
+    (λ q. ap (idsOf (x ∷ xs)) (sym q) ∙ idsOf-here x xs)
+    (λ n. idsOf-there x i xs n ∙ e)))) in
+    let l = w .shorter in
+    omega arith
+
+-- a table of distinct ids is within its bound, and one that holds them all is the bound's witness
+pub distinct-few : (n : ℕ) (xs : List ℕ) → Distinct xs → AtMost n (idsOf xs) → length xs ≤ n
+distinct-few n xs d m = let h = distinct-within xs (m .listed) d (m .all) in let l = m .few in omega arith
+
+pub none-few : (n : ℕ) → AtMost n no-ids
+none-few n = record { listed = []; few = omega arith; all = λ i e. false-true e }
+
+pub listed-few : (n : ℕ) (xs : List ℕ) → length xs ≤ n → AtMost n (idsOf xs)
+listed-few n xs h = record { listed = xs; few = h; all = λ i e. e }
