@@ -5,3 +5,10 @@ pub mod Slots
 pub mod Relation
 pub mod Loading
 pub mod Working
+pub mod Commits
+pub mod Landing
+pub mod Answering
+pub mod Calls
+pub mod Steps
+pub mod Reloaded
+pub mod Whole

@@ -24,6 +24,7 @@ use Rattle.source.specs.JournalDisk as D
 use Rattle.source.specs.JournalDisk.{ReqId, ReqWriteSuperblockId, DiskOp, RespReadSuperblockOp}
 use Rattle.source.specs.JournalCache as M
 use Rattle.source.specs.JournalCache.{SuperblockReadResult, SuperblockSuccess, SuperblockUnfinished, SuperblockCorruption, superblockRead, journalIntervalOfSuperblock}
+use Rattle.source.specs.Departures.{FinishLoadingOtherPhase⁺}
 use Rattle.history.specs.Ledger.{blocks, Kept, Ledger, fresh}
 use Rattle.history.specs.Codes.{codes, whole, full-whole, whole-same, length-codes, blocks-none}
 use Rattle.history.specs.Holds.{Holds}
@@ -160,17 +161,17 @@ module _ (g : Geometry) (C : Codec) (p : ℕ) where
   sim-journal-resp which (M.Variables.Ready s) m′ d d′ l dop z r h hd = absurd h
 
   -- the pieces are the kept ranges' blocks, but for the parser this is all that loading's end needs: the machine stands on what is kept
-  pub sim-finish-other : Keeps (λ m m′ dop. M.FinishLoadingOtherPhase g C m m′ dop × M.isReady m′ (λ s′. s′ .frozenJournalPosition ≡ 0)) (λ l. l)
-  sim-finish-other (M.Variables.LoadingSuperblock s) m′ d d′ l dop z h hd = absurd (h .0)
-  sim-finish-other (M.Variables.LoadingOther s) (M.Variables.LoadingSuperblock s′) d d′ l dop z h hd = absurd (h .1)
-  sim-finish-other (M.Variables.LoadingOther s) (M.Variables.LoadingOther s′) d d′ l dop z h hd = absurd (h .1)
+  pub sim-finish-other : Keeps (FinishLoadingOtherPhase⁺ g C) (λ l. l)
+  sim-finish-other (M.Variables.LoadingSuperblock s) m′ d d′ l dop z h hd = absurd (h .source)
+  sim-finish-other (M.Variables.LoadingOther s) (M.Variables.LoadingSuperblock s′) d d′ l dop z h hd = absurd (h .position-is)
+  sim-finish-other (M.Variables.LoadingOther s) (M.Variables.LoadingOther s′) d d′ l dop z h hd = absurd (h .position-is)
   sim-finish-other (M.Variables.LoadingOther s) (M.Variables.Ready s′) d d′ l dop z h hd =
-      by-next refl (subst (D.Next g d d′) (h .0 .op) hd .next)
+      by-next refl (subst (D.Next g d d′) (h .source .op) hd .next)
       (subst (Sim g C p (M.Variables.Ready s′) d) (sym (z .runs .0 .ledger-is))
       (record { slot = z .slot; disk = z .disk; runs = live }))
     where
       f : M.FinishLoadingOtherPhaseClauses g C s s′ dop
-      f = h .0
+      f = h .source
 
       k : Kept
       k = l .kept
@@ -200,14 +201,14 @@ module _ (g : Geometry) (C : Codec) (p : ℕ) where
                   superblock-is = f .superblock-is ∙ z .runs .1 .superblock-is;
                   which-is = f .whichSuperblock-is ∙ z .runs .1 .which-is;
                   len-is = len;
-                  position-is = h .1 ∙ sym (blocks-none C);
+                  position-is = h .position-is ∙ sym (blocks-none C);
                   longer = omega (arith, len);
                   len-in = omega (arith, len, wf .len-in);
                   holds = z .disk .holds;
                   good = z .disk .good;
                 });
           }
-  sim-finish-other (M.Variables.Ready s) m′ d d′ l dop z h hd = absurd (h .0)
+  sim-finish-other (M.Variables.Ready s) m′ d d′ l dop z h hd = absurd (h .source)
 
   -- sync requests and replay
   pub sim-push : (id : ℕ) → Keeps (λ m m′ dop. M.PushSyncReq m m′ dop id) (λ l. l)

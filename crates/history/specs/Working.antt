@@ -26,6 +26,7 @@ use Rattle.source.specs.JournalDisk as D
 use Rattle.source.specs.JournalDisk.{ReqId, ReqWriteSuperblockId, ReqWriteJournal, DiskOp, written, written1, written2}
 use Rattle.source.specs.JournalCache as M
 use Rattle.source.specs.JournalCache.{CommitNone, ifNone, toWrite, joinIds}
+use Rattle.source.specs.Departures.{WriteBackJournalReq⁺}
 use Rattle.history.specs.Ledger.{Range, blocks, Kept, Draft, Commit, log, location, Request, Ledger, onDraft, added, frozen, receivedAt, writtenOf}
 use Rattle.history.specs.Ledger as Ledger
 use Rattle.history.specs.Codes.{Good, codes, whole, codes-one, codes-append, length-codes, blocks-one, blocks-append}
@@ -65,10 +66,6 @@ values-unbind P m k f id v = go (eqb k id)
     go : (b : Bool) → cond b none (m id) ≡ some v → P v
     go true e = ruin (cc)
     go false e = f id v e
-
--- the departure that a journal write sends the one range of its entries
-abbrev pub OneRange : Codec → M.ReadyVariables → JournalRange → Type 0
-OneRange C s jr = (jr ≡ C .encode (toWrite s)) × Good C (toWrite s)
 
 -- an answer to a write that is there
 pub no-keys-some : {G : Type 0} (m : Map JournalInterval) (id : ReqId) (v : JournalInterval) → m ≡ no-keys → m id ≡ some v → G
@@ -320,9 +317,9 @@ module _ (g : Geometry) (C : Codec) (p : ℕ) where
     pub live-wrote : Wrote (s .inMemoryJournalFrozen) (l .draft .frozen)
     live-wrote = subst (Wrote (s .inMemoryJournalFrozen)) (z .runs .frozen-is) (wrote (s .inMemoryJournalFrozen) refl (sym (z .runs .frozen-is)))
 
-  pub sim-write : (jr : JournalRange) → Keeps g C p (λ m m′ dop. M.WriteBackJournalReq g C m m′ dop jr × M.isReady m (λ s. OneRange C s jr)) (onDraft Ledger.written)
-  sim-write jr (M.Variables.LoadingSuperblock s) m′ d d′ l dop z h hd = absurd (h .0)
-  sim-write jr (M.Variables.LoadingOther s) m′ d d′ l dop z h hd = absurd (h .0)
+  pub sim-write : (jr : JournalRange) → Keeps g C p (λ m m′ dop. WriteBackJournalReq⁺ g C m m′ dop jr) (onDraft Ledger.written)
+  sim-write jr (M.Variables.LoadingSuperblock s) m′ d d′ l dop z h hd = absurd (h .source)
+  sim-write jr (M.Variables.LoadingOther s) m′ d d′ l dop z h hd = absurd (h .source)
   sim-write jr (M.Variables.Ready s) m′ d d′ l dop z h hd =
       split-le (req .start + length jr) (g .blocks)
       (λ k.
@@ -341,7 +338,7 @@ module _ (g : Geometry) (C : Codec) (p : ℕ) where
       ∙ (λ i. joinIds (z .runs .ids i) (c .id1) (sym (t .two-ids) i))))
     where
       c : M.WriteBackJournalReqClauses g C s m′ dop jr
-      c = h .0
+      c = h .source
 
       -- no commit is in flight, so the machine stands on what is kept
       st : Standing g C (s .superblock) (s .whichSuperblock) (s .writtenJournalLen) (s .frozenJournalPosition) (d .journal) (l .kept) (l .draft .before) (l .draft .after) (z .slot)
@@ -374,6 +371,6 @@ module _ (g : Geometry) (C : Codec) (p : ℕ) where
           by-next g C p (c .next) e
           (record {
             slot = z .slot;
-            disk = disk-wrote s d d′ l jr (c .id1) (c .id2) writes z (c .no-write) (c .fits) (h .1 .0) (h .1 .1) (a .update) clear ids;
-            runs = live-wrote s d d′ l jr (c .id1) (c .id2) writes z (c .no-write) (c .fits) (h .1 .0) (h .1 .1) (a .update) clear ids;
+            disk = disk-wrote s d d′ l jr (c .id1) (c .id2) writes z (c .no-write) (c .fits) (h .one-range .range-is) (h .one-range .good) (a .update) clear ids;
+            runs = live-wrote s d d′ l jr (c .id1) (c .id2) writes z (c .no-write) (c .fits) (h .one-range .range-is) (h .one-range .good) (a .update) clear ids;
           })
