@@ -152,6 +152,10 @@ pub unless-done {ℓ} : {A : Type ℓ} (q : ℕ) (old new : A) → q ≡ 0 → u
 unfolding unless
 unless-done q old new h = simp (eq-eqb q 0 h)
 
+-- the same for a step that has the refusal in a number of its own
+pub refused-kept {ℓ} : {A : Type ℓ} (r q : ℕ) (old new : A) → r ≡ q → (r ≡ 0 → ⊥) → old ≡ unless q old new
+refused-kept r q old new e h = sym (unless-kept q old new (λ z. h (e ∙ z)))
+
 -- the two cases of a test: a fact about the chosen value follows from one about each
 pub by-leb {ℓ κ} : {A : Type ℓ} (P : A → Type κ) (m n : ℕ) (x y : A) → (m ≤ n → P x) → (n < m → P y) → P (cond (leb m n) x y)
 by-leb P m n x y f g = go (leb m n) refl

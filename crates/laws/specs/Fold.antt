@@ -1,13 +1,15 @@
--- Folds over lists: the sum of numbers, and a test that every element meets. A loop speaks of what is left, `drop i xs`: a turn takes one
--- element off, and the early exit, the next turn and the end are a law each. Assumes nothing.
+-- Folds over lists: the sum of numbers, a test that every element meets, and whether two lists of numbers are equal. A loop speaks of
+-- what is left, `drop i xs`: a turn takes one element off, and the early exit, the next turn and the end are a law each. Assumes nothing.
 use Prim.Native.Nat.{ℕ, zero, suc, _+_, _*_, _-_, _≤_, _<_}
 use mathlib.Core.Bool.{Bool, true, false}
 use mathlib.Core.Path.{_≡_, refl, sym, _∙_, ap}
 use mathlib.Core.List.{List, [], _∷_, _++_}
 use native.Mathlib.Nat.{add-zero, zero-add, add-assoc, mul-suc}
 use native.Mathlib.Omega.{arith}
+use lib.Dec.{eqb}
+use borrow.Author.Tests.{eq-eqb, ne-eqb, eqb-true}
 use lib.ListN.{length, take, drop, getD, replicate, length-drop, drop-of-length-le, take-append-drop}
-use Rattle.laws.specs.Choice.{also, also-left, also-right, also-both, false-true}
+use Rattle.laws.specs.Choice.{also, also-left, also-right, also-both, false-true, not-so}
 use Rattle.laws.specs.Part.{drop-step, take-step, drop-end}
 
 -- the sum of the numbers
@@ -19,6 +21,13 @@ sum (x ∷ xs) = x + sum xs
 unfoldable pub every {ℓ} : {A : Type ℓ} → (A → Bool) → List A → Bool
 every p [] = true
 every p (x ∷ xs) = also (p x) (every p xs)
+
+-- the two lists are equal
+unfoldable pub same : List ℕ → List ℕ → Bool
+same [] [] = true
+same [] (y ∷ ys) = false
+same (x ∷ xs) [] = false
+same (x ∷ xs) (y ∷ ys) = also (eqb x y) (same xs ys)
 
 -- every element has the property
 abbrev pub Each {ℓ κ} : {A : Type ℓ} → (A → Type κ) → List A → Type κ
@@ -130,3 +139,50 @@ sum-bound k (x ∷ xs) f =
     let h : sum xs ≤ k * length xs = sum-bound k xs (λ i l. f (suc i) (omega arith)) in
     let z : x ≤ k = f 0 (omega arith) in
     rw (mul-suc k (length xs)) (omega arith)
+
+-- the test says true exactly for equal lists
+pub same-is : (xs ys : List ℕ) → same xs ys ≡ true → xs ≡ ys
+unfolding same
+same-is [] [] e = refl
+same-is [] (y ∷ ys) e = false-true e
+same-is (x ∷ xs) [] e = false-true e
+same-is (x ∷ xs) (y ∷ ys) e = λ i. eqb-true x y (also-left (eqb x y) (same xs ys) e) i ∷ same-is xs ys (also-right (eqb x y) (same xs ys) e) i
+
+pub same-self : (xs : List ℕ) → same xs xs ≡ true
+unfolding same
+same-self [] = refl
+same-self (x ∷ xs) = also-both (eqb x x) (same xs xs) (eq-eqb x x refl) (same-self xs)
+
+pub is-same : (xs ys : List ℕ) → xs ≡ ys → same xs ys ≡ true
+is-same xs ys e = ap (same xs) (sym e) ∙ same-self xs
+
+-- lists of two lengths; a turn of the loop where the elements differ and where they don't; its end
+pub same-short : (xs ys : List ℕ) → (length xs ≡ length ys → ⊥) → false ≡ same xs ys
+same-short xs ys h = sym (not-so (same xs ys) (λ e. h (ap length (same-is xs ys e))))
+
+module _ (xs ys : List ℕ) (i : ℕ) (h : i < length xs) (k : i < length ys) where
+  pub same-step : same (drop i xs) (drop i ys) ≡ also (eqb (getD xs i 0) (getD ys i 0)) (same (drop (i + 1) xs) (drop (i + 1) ys))
+  unfolding same
+  same-step = rw (drop-step xs i 0 h, drop-step ys i 0 k)
+
+  pub same-no : same (drop i xs) (drop i ys) ≡ same xs ys → (getD xs i 0 ≡ getD ys i 0 → ⊥) → false ≡ same xs ys
+  unfolding also
+  same-no e q = (λ j. also (sym (ne-eqb (getD xs i 0) (getD ys i 0) q) j) (same (drop (i + 1) xs) (drop (i + 1) ys))) ∙ sym same-step ∙ e
+
+  pub same-yes : same (drop i xs) (drop i ys) ≡ same xs ys → getD xs i 0 ≡ getD ys i 0 → same (drop (i + 1) xs) (drop (i + 1) ys) ≡ same xs ys
+  unfolding also
+  same-yes e q = (λ j. also (sym (eq-eqb (getD xs i 0) (getD ys i 0) q) j) (same (drop (i + 1) xs) (drop (i + 1) ys))) ∙ sym same-step ∙ e
+
+pub same-done : (xs ys : List ℕ) (i : ℕ) → length xs ≤ i → length ys ≤ i → same (drop i xs) (drop i ys) ≡ same xs ys → true ≡ same xs ys
+unfolding same
+same-done xs ys i h k e = (λ j. same (sym (drop-end xs i h) j) (sym (drop-end ys i k) j)) ∙ e
+
+-- two tests that agree place by place agree as wholes
+pub every-same {ℓ κ} : {A : Type ℓ} {B : Type κ} (p : A → Bool) (q : B → Bool) (xs : List A) (ys : List B) (d : A) (e : B) → length xs ≡ length ys
+    → ((i : ℕ) → i < length xs → p (getD xs i d) ≡ q (getD ys i e)) → every p xs ≡ every q ys
+unfolding every
+every-same p q [] [] d e h f = refl
+every-same p q [] (y ∷ ys) d e h f = absurd (omega arith)
+every-same p q (x ∷ xs) [] d e h f = absurd (omega arith)
+every-same p q (x ∷ xs) (y ∷ ys) d e h f =
+    λ i. also (f 0 (omega arith) i) (every-same p q xs ys d e (omega arith) (λ j k. f (suc j) (omega arith)) i)

@@ -3,12 +3,16 @@
 use Prim.Native.Nat.{ℕ, zero, suc, _+_, _-_, _≤_, _<_, min}
 use mathlib.Core.Path.{_≡_, refl, sym, _∙_, ap}
 use mathlib.Core.List.{List, [], _∷_, _++_, append-assoc, append-nil, map}
-use native.Mathlib.Nat.{sub-zero, min-eq-left, min-eq-right, le-of-lt}
+use native.Mathlib.Nat.{sub-zero, zero-sub, zero-min, min-zero, min-eq-left, min-eq-right, le-of-lt}
 use native.Mathlib.Numerals.{add-one}
 use native.Mathlib.Omega.{arith}
 use lib.ListN.{length, take, drop, getD, length-append, length-take, length-drop, take-append-drop, drop-of-length-le, replicate}
 use lib.Seq.{drop-cons, take-all, take-append-le, drop-append-le, take-append-add, drop-append-add, getD-append-add, take-suc, drop-drop, length-take-le, take-add, take-nil, take-take, drop-at}
 use Rattle.laws.specs.Choice.{split-le}
+
+-- the lesser of two, less a number that neither is below
+pub min-less : (a m n : ℕ) → a ≤ m → a ≤ n → min m n - a ≡ min (m - a) (n - a)
+min-less a m n h k = omega arith
 
 module _ {ℓ κ} {A : Type ℓ} {B : Type κ} where
   -- a fact about the front `s[0..n]`, in the code's form and in the definition's
@@ -77,8 +81,52 @@ module _ {ℓ} {A : Type ℓ} where
   getD-any (x ∷ xs) zero d e h = refl
   getD-any (x ∷ xs) (suc i) d e h = getD-any xs i d e (omega arith)
 
+  -- a front and a part of one value again and again
+  pub take-replicate : (n m : ℕ) (v : A) → take n (replicate m v) ≡ replicate (min n m) v
+  take-replicate zero m v = rw (zero-min m)
+  take-replicate (suc n) zero v = rw (min-zero (suc n))
+  take-replicate (suc n) (suc m) v = let e : min (suc n) (suc m) ≡ suc (min n m) = omega arith in rw e (ap (λ (l : List A). v ∷ l) (take-replicate n m v))
+
+  pub drop-replicate : (n m : ℕ) (v : A) → drop n (replicate m v) ≡ replicate (m - n) v
+  drop-replicate zero m v = rw (sub-zero m)
+  drop-replicate (suc n) zero v = rw (zero-sub (suc n))
+  drop-replicate (suc n) (suc m) v = let e : suc m - suc n ≡ m - n = omega arith in rw e (drop-replicate n m v)
+
+  pub part-replicate : (a k n : ℕ) (v : A) → a + k ≤ n → take k (drop a (replicate n v)) ≡ replicate k v
+  part-replicate a k n v h =
+      let e : min k (n - a) ≡ k = omega arith in
+      ap (take k) (drop-replicate a n v) ∙ take-replicate k (n - a) v ∙ ap (λ (m : ℕ). replicate m v) e
+
 -- an element of a mapped list
 pub getD-map-in {ℓ κ} : {A : Type ℓ} {B : Type κ} (f : A → B) (xs : List A) (i : ℕ) (d : A) (e : B) → i < length xs → getD (map f xs) i e ≡ f (getD xs i d)
 getD-map-in f [] i d e h = absurd (omega arith)
 getD-map-in f (x ∷ xs) zero d e h = refl
 getD-map-in f (x ∷ xs) (suc i) d e h = getD-map-in f xs i d e (omega arith)
+
+-- a part of the images is the images of the part
+module _ {ℓ κ} {A : Type ℓ} {B : Type κ} (f : A → B) where
+  pub map-take : (k : ℕ) (xs : List A) → map f (take k xs) ≡ take k (map f xs)
+  map-take zero xs = refl
+  map-take (suc k) [] = refl
+  map-take (suc k) (x ∷ xs) = ap (λ (l : List B). f x ∷ l) (map-take k xs)
+
+  pub map-drop : (k : ℕ) (xs : List A) → map f (drop k xs) ≡ drop k (map f xs)
+  map-drop zero xs = refl
+  map-drop (suc k) [] = refl
+  map-drop (suc k) (x ∷ xs) = map-drop k xs
+
+-- the list of n elements that a function gives
+unfoldable pub tab {ℓ} : {A : Type ℓ} → ℕ → (ℕ → A) → List A
+tab zero f = []
+tab (suc n) f = f 0 ∷ tab n (λ i. f (suc i))
+
+pub length-tab {ℓ} : {A : Type ℓ} (n : ℕ) (f : ℕ → A) → length (tab n f) ≡ n
+unfolding tab
+length-tab zero f = refl
+length-tab (suc n) f = ap suc (length-tab n (λ i. f (suc i)))
+
+pub getD-tab {ℓ} : {A : Type ℓ} (n : ℕ) (f : ℕ → A) (i : ℕ) (d : A) → i < n → getD (tab n f) i d ≡ f i
+unfolding tab
+getD-tab zero f i d h = absurd (omega arith)
+getD-tab (suc n) f zero d h = refl
+getD-tab (suc n) f (suc i) d h = getD-tab n (λ j. f (suc j)) i d (omega arith)

@@ -1,17 +1,18 @@
 -- A list as a ring of S elements, S its length. A position is below S; an offset from a position is counted going round. Every law holds
 -- for every S: facts go by index, and each conditional has its two cases. Assumes nothing.
-use Prim.Native.Nat.{ℕ, zero, suc, _+_, _-_, _≤_, _<_, min}
+use Prim.Native.Nat.{ℕ, zero, suc, _+_, _-_, _*_, _≤_, _<_, min}
 use mathlib.Core.Bool.{Bool, true, false, cond}
 use mathlib.Core.Path.{_≡_, refl, sym, _∙_, ap, subst}
-use mathlib.Core.List.{List, [], _∷_, _++_, append-assoc}
-use native.Mathlib.Nat.{add-zero, zero-add, add-assoc}
+use mathlib.Core.List.{List, [], _∷_, _++_, append-assoc, append-nil}
+use native.Mathlib.Nat.{add-zero, zero-add, add-assoc, add-sub-of-le, sub-le}
 use native.Mathlib.Omega.{arith}
 use lib.Dec.{leb, ltb, eqb}
 use borrow.Author.Tests.{lt-ltb, le-ltb, le-leb, lt-leb, ltb-true, ltb-false}
-use lib.ListN.{length, take, drop, getD, length-append, length-take, length-drop, List·getD-append}
-use lib.Seq.{length-take-le, take-all, take-take, take-append-le, take-append-add, drop-at, getD-take, getD-drop, getD-append-add, ext-getD}
+use lib.ListN.{length, take, drop, getD, replicate, length-append, length-take, length-drop, length-replicate, List·getD-append}
+use lib.Seq.{length-take-le, take-all, take-take, take-append-le, take-append-add, take-nil, drop-nil, drop-at, getD-take, getD-drop, getD-append-add, ext-getD}
 use Rattle.laws.specs.Choice.{by-leb, by-ltb, split-le}
-use Rattle.laws.specs.Splice.{splice, length-splice, getD-splice-before, getD-splice-here, getD-splice-after, splice-none}
+use Rattle.laws.specs.Part.{min-less, drop-end, take-min, drop-take, part-replicate}
+use Rattle.laws.specs.Splice.{splice, clipped, clipped-fits, length-clipped, length-splice, getD-splice-before, getD-splice-here, getD-splice-after, splice-none}
 
 -- the position of x on a ring of S places, for x below 2 S
 unfoldable pub wrap : ℕ → ℕ → ℕ
@@ -95,6 +96,19 @@ off-shift S s a i h ha hi =
     (λ n. by-off (λ (o : ℕ). o ≡ i + S - a) S (s + a) (s + i - S) (λ q. omega arith) (λ q. omega arith))
     (λ n. by-off (λ (o : ℕ). o ≡ i + S - a) S (s + a) (s + i) (λ q. omega arith) (λ q. omega arith))))
 
+-- a ring of blocks of 4,096 elements: an element's offset and position go by its block's
+pub off-scaled : (S p i r : ℕ) → p < S → i < S → r < 4096 → off (S * 4096) (p * 4096) (i * 4096 + r) ≡ off S p i * 4096 + r
+off-scaled S p i r h k l =
+    by-off (λ (o : ℕ). off (S * 4096) (p * 4096) (i * 4096 + r) ≡ o * 4096 + r) S p i
+    (λ m. by-off (λ (o : ℕ). o ≡ (i - p) * 4096 + r) (S * 4096) (p * 4096) (i * 4096 + r) (λ n. omega arith) (λ n. absurd (omega arith)))
+    (λ m. by-off (λ (o : ℕ). o ≡ (i + S - p) * 4096 + r) (S * 4096) (p * 4096) (i * 4096 + r) (λ n. absurd (omega arith)) (λ n. omega arith))
+
+pub wrap-scaled : (S x r : ℕ) → r < 4096 → wrap (S * 4096) (x * 4096 + r) ≡ wrap S x * 4096 + r
+wrap-scaled S x r l =
+    by-wrap (λ (w : ℕ). wrap (S * 4096) (x * 4096 + r) ≡ w * 4096 + r) S x
+    (λ m. by-wrap (λ (w : ℕ). w ≡ (x - S) * 4096 + r) (S * 4096) (x * 4096 + r) (λ n. omega arith) (λ n. absurd (omega arith)))
+    (λ m. by-wrap (λ (w : ℕ). w ≡ x * 4096 + r) (S * 4096) (x * 4096 + r) (λ n. absurd (omega arith)) (λ n. refl))
+
 -- the n elements from `at` on, going round
 unfoldable pub around {ℓ} : {A : Type ℓ} → List A → ℕ → ℕ → List A
 around s at n = take n (drop at s ++ take at s)
@@ -175,6 +189,128 @@ module _ {ℓ} {A : Type ℓ} where
 
       length-rest : length rest ≡ length s - (length d - at)
       length-rest = length-drop (length d - at) s
+
+  -- a write of nothing, and a run after a run going round
+  pub spliceAround-none : (d : List A) (at : ℕ) → spliceAround d at [] ≡ d
+  unfolding spliceAround
+  spliceAround-none d at =
+      (λ i. splice (splice d at (take-nil {A = A} (length d - at) i)) 0 (drop-nil {A = A} (length d - at) i))
+      ∙ sym (splice-none (splice d at []) 0)
+      ∙ sym (splice-none d at)
+
+  -- a write from a place past the end is a write from the front
+  pub spliceAround-past : (d : List A) (at : ℕ) (s : List A) → length d ≤ at → spliceAround d at s ≡ splice d 0 s
+  unfolding spliceAround
+  spliceAround-past d at s h =
+      let e : length d - at ≡ 0 = omega arith in
+      (λ i. splice (splice d at (take (e i) s)) 0 (drop (e i) s)) ∙ ap (λ (l : List A). splice l 0 s) (sym (splice-none d at))
+
+  -- what stands at offset o of a ring of S places after a run s and then a run t behind it, y having stood there before
+  abbrev twice : List A → List A → ℕ → ℕ → A → A → A
+  twice s t S o x y = cond (ltb (off S (length s) o) (length t)) (getD t (off S (length s) o) x) (cond (ltb o (length s)) (getD s o x) y)
+
+  twice-is : (s t : List A) (S o : ℕ) (x y : A) → length s + length t ≤ S → twice s t S o x y ≡ cond (ltb o (length (s ++ t))) (getD (s ++ t) o x) y
+  twice-is s t S o x y k =
+      by-off (λ (q : ℕ). cond (ltb q (length t)) (getD t q x) (cond (ltb o (length s)) (getD s o x) y) ≡ cond (ltb o (length (s ++ t))) (getD (s ++ t) o x) y) S (length s) o
+      (λ m.
+      by-ltb (λ (z : A). z ≡ cond (ltb o (length (s ++ t))) (getD (s ++ t) o x) y) (o - length s) (length t) (getD t (o - length s) x) (cond (ltb o (length s)) (getD s o x) y)
+      (λ l.
+      let e : length s + (o - length s) ≡ o = omega arith in
+      sym
+      (simp (lt-ltb o (length (s ++ t)) (omega (arith, length-append s t)))
+      (ap (λ (j : ℕ). getD (s ++ t) j x) (sym e) ∙ getD-append-add s t (o - length s) x)))
+      (λ l. simp (le-ltb o (length s) m, le-ltb o (length (s ++ t)) (omega (arith, length-append s t)))))
+      (λ m.
+      simp (le-ltb (o + S - length s) (length t) (omega arith), lt-ltb o (length s) m, lt-ltb o (length (s ++ t)) (omega (arith, length-append s t)))
+      (sym (List·getD-append s t x o m)))
+
+  pub spliceAround-then : (d : List A) (at : ℕ) (s t : List A) → at < length d → length s + length t ≤ length d
+      → spliceAround (spliceAround d at s) (wrap (length d) (at + length s)) t ≡ spliceAround d at (s ++ t)
+  spliceAround-then d at s [] h k = spliceAround-none (spliceAround d at s) (wrap (length d) (at + length s)) ∙ ap (spliceAround d at) (sym (append-nil s))
+  spliceAround-then d at s (x ∷ xs) h k =
+      ext-getD x (spliceAround w next t) (spliceAround d at (s ++ t)) (long2 ∙ sym long-both)
+      (λ i l.
+      let m : i < length d = omega (arith, l, long2) in
+      second i m
+      ∙ twice-is s t (length d) (off (length d) at i) x (getD d i x) k
+      ∙ sym (getD-spliceAround d at (s ++ t) i x h (omega (arith, k, both)) m))
+    where
+      t : List A
+      t = x ∷ xs
+
+      w : List A
+      w = spliceAround d at s
+
+      next : ℕ
+      next = wrap (length d) (at + length s)
+
+      next-in : next < length d
+      next-in = wrap-in (length d) (at + length s) (omega (arith, h, k))
+
+      long : length w ≡ length d
+      long = length-spliceAround d at s (omega (arith, h)) (omega (arith, k))
+
+      long2 : length (spliceAround w next t) ≡ length d
+      long2 = length-spliceAround w next t (omega (arith, next-in, long)) (omega (arith, k, long)) ∙ long
+
+      both : length (s ++ t) ≡ length s + length t
+      both = length-append s t
+
+      long-both : length (spliceAround d at (s ++ t)) ≡ length d
+      long-both = length-spliceAround d at (s ++ t) (omega (arith, h)) (omega (arith, k, both))
+
+      second : (i : ℕ) → i < length d → getD (spliceAround w next t) i x ≡ twice s t (length d) (off (length d) at i) x (getD d i x)
+      second i l =
+          getD-spliceAround w next t i x (omega (arith, next-in, long)) (omega (arith, k, long)) (omega (arith, l, long))
+          ∙ ap (λ (n : ℕ). cond (ltb (off n next i) (length t)) (getD t (off n next i) x) (getD w i x)) long
+          ∙ (λ j. cond (ltb (offset j) (length t)) (getD t (offset j) x) (getD-spliceAround d at s i x h (omega (arith, k)) l j))
+        where
+          offset : off (length d) next i ≡ off (length d) (length s) (off (length d) at i)
+          offset =
+              ap (off (length d) next) (sym (wrap-off (length d) at i h l))
+              ∙ off-shift (length d) at (length s) (off (length d) at i) h (omega (arith, k)) (off-in (length d) at i h l)
+
+  -- as many elements as the ring has, written by two writes that are cut at the end: from `at` on, and the rest from the front on
+  pub around-two : (d x y : List A) (at : ℕ) (s : List A) (first end : ℕ) → first ≡ min (length d - at) (length s) → end ≡ min (length d) (length s)
+      → x ≡ clipped d at s → y ≡ clipped x 0 (take (end - first) (drop first s)) → y ≡ spliceAround d at (take (length d) s)
+  unfolding clipped spliceAround
+  around-two d x y at s first end ef ee ex ey =
+      ey
+      ∙ clipped-fits x 0 (take (end - first) (drop first s)) short
+      ∙ (λ i. splice (front i) 0 (rest i))
+    where
+      long : length x ≡ length d
+      long = ap length ex ∙ length-clipped d at s
+
+      short : 0 + length (take (end - first) (drop first s)) ≤ length x
+      short = simp (length-take, length-drop) (omega (arith, long, ee))
+
+      front : x ≡ splice d at (take (length d - at) (take (length d) s))
+      front = ex ∙ ap (splice d at) (sym (take-take (length d - at) (length d) s (omega arith)))
+
+      rest : take (end - first) (drop first s) ≡ drop (length d - at) (take (length d) s)
+      rest =
+          split-le (length s) (length d - at)
+          (λ h.
+          let e : length s ≤ first = omega (arith, ef) in
+          ap (take (end - first)) (drop-end s first e)
+          ∙ take-nil {A = A} (end - first)
+          ∙ sym (ap (drop (length d - at)) (take-all (length d) s (omega arith)) ∙ drop-end s (length d - at) h))
+          (λ h.
+          let f : first ≡ length d - at = omega (arith, ef) in
+          let g : end - first ≡ min (length d - (length d - at)) (length s - (length d - at)) =
+          (λ i. ee i - f i) ∙ min-less (length d - at) (length d) (length s) (sub-le (length d) at) (omega arith) in
+          (λ i. take (g i) (drop (f i) s))
+          ∙ take-min (drop (length d - at) s) (length d - (length d - at)) (length s - (length d - at)) (length-drop (length d - at) s)
+          ∙ sym (drop-take (length d - at) (length d - (length d - at)) s)
+          ∙ ap (λ (n : ℕ). drop (length d - at) (take n s)) (add-sub-of-le (sub-le (length d) at)))
+
+  pub around-fill : (d x y : List A) (at n : ℕ) (v : A) (first end : ℕ) → first ≡ min (length d - at) n → end ≡ min (length d) n
+      → x ≡ clipped d at (replicate n v) → y ≡ clipped x 0 (replicate (end - first) v) → y ≡ spliceAround d at (take (length d) (replicate n v))
+  around-fill d x y at n v first end ef ee ex ey =
+      let l : length (replicate n v) ≡ n = length-replicate n v in
+      around-two d x y at (replicate n v) first end (ef ∙ ap (min (length d - at)) (sym l)) (ee ∙ ap (min (length d)) (sym l)) ex
+      (ey ∙ ap (clipped x 0) (sym (part-replicate first (end - first) n v (omega arith))))
 
   -- the interval that a write covered shows the write
   around-here-by : (d : List A) (at : ℕ) (s : List A) (x : A) → at < length d → length s ≤ length d → around (spliceAround d at s) at (length s) ≡ s
@@ -277,6 +413,22 @@ module _ {ℓ} {A : Type ℓ} where
       ap (λ (j : ℕ). take j (drop at s ++ take at s)) (sym e)
       ∙ take-append-add (drop at s) (take at s) (at + n - length s)
       ∙ ap (λ (z : List A). drop at s ++ z) (take-take (at + n - length s) at s (omega arith))
+
+  -- in one part or two: up to the end, and the rest from the front
+  pub around-parts : (s : List A) (at n : ℕ) → at ≤ length s → n ≤ length s
+      → around s at n ≡ take (min n (length s - at)) (drop at s) ++ take (n - min n (length s - at)) s
+  around-parts s at n h k =
+      split-le n (length s - at)
+      (λ l.
+      let e : min n (length s - at) ≡ n = omega arith in
+      let z : n - n ≡ 0 = omega arith in
+      rw (e, z) (around-straight s at n (omega arith) ∙ sym (append-nil (take n (drop at s)))))
+      (λ l.
+      let e : min n (length s - at) ≡ length s - at = omega arith in
+      let z : n - (length s - at) ≡ at + n - length s = omega arith in
+      rw (e, z)
+      (around-past s at n h (omega arith) k
+      ∙ ap (λ (x : List A). x ++ take (at + n - length s) s) (sym (take-all (length s - at) (drop at s) (simp length-drop (omega arith))))))
 
   pub around-none : (s : List A) (at : ℕ) → around s at 0 ≡ []
   unfolding around

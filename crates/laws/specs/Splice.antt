@@ -1,16 +1,16 @@
 -- Writes. Every write to lent memory is one definition, `splice`: the list with a run of elements from a place on. Its laws say what a
 -- loop's next store does, how a run follows a run, and what a reader finds before, in and after it. Over any element. Assumes nothing.
-use Prim.Native.Nat.{ℕ, zero, suc, _+_, _-_, _≤_, _<_}
+use Prim.Native.Nat.{ℕ, zero, suc, _+_, _-_, _≤_, _<_, min}
 use mathlib.Core.Bool.{Bool, cond}
 use mathlib.Core.Path.{_≡_, refl, sym, _∙_, ap}
-use mathlib.Core.List.{List, [], _∷_, _++_, append-assoc, append-nil}
+use mathlib.Core.List.{List, [], _∷_, _++_, append-assoc, append-nil, map}
 use native.Mathlib.Nat.{add-zero, zero-add, add-assoc, sub-zero}
 use native.Mathlib.Numerals.{add-one}
 use native.Mathlib.Omega.{arith}
-use lib.ListN.{length, take, drop, getD, set, replicate, length-append, length-take, length-drop, length-set, length-replicate, replicate-append-replicate, take-append-drop, drop-of-length-le, List·getD-append}
+use lib.ListN.{length, take, drop, getD, set, replicate, length-append, length-take, length-drop, length-set, length-replicate, replicate-append-replicate, take-append-drop, drop-of-length-le, List·getD-append, List·getD-map, length-map}
 use lib.Seq.{length-take-le, take-all, drop-length, take-append-le, drop-append-le, take-at, drop-at, take-add, drop-drop, take-take, take-suc, drop-cons, set-at, getD-take, getD-drop, getD-append-add, ext-getD}
 use Rattle.laws.specs.Choice.{split-le}
-use Rattle.laws.specs.Part.{drop-step, take-step, three-parts, length-part, drop-take}
+use Rattle.laws.specs.Part.{drop-step, take-step, take-min, three-parts, length-part, drop-take, take-replicate}
 
 -- d with the elements of s from the place `at` on
 unfoldable pub splice {ℓ} : {A : Type ℓ} → List A → ℕ → List A → List A
@@ -213,3 +213,24 @@ module _ {ℓ} {A : Type ℓ} where
   pub clipped-fits : (d : List A) (at : ℕ) (s : List A) → at + length s ≤ length d → clipped d at s ≡ splice d at s
   unfolding clipped
   clipped-fits d at s h = ap (splice d at) (take-all (length d - at) s (omega arith))
+
+  -- the end of a loop that copies, fills, or moves to the front, at the lesser of what there is and what there is room for
+  pub copy-end : (x d : List A) (at : ℕ) (s : List A) (j : ℕ) → x ≡ splice d at (take j s) → j ≡ min (length d - at) (length s) → x ≡ clipped d at s
+  unfolding clipped
+  copy-end x d at s j e h = e ∙ ap (splice d at) (ap (λ (n : ℕ). take n s) h ∙ take-min s (length d - at) (length s) refl)
+
+  pub fill-end : (x d : List A) (at n j : ℕ) (v : A) → x ≡ splice d at (replicate j v) → j ≡ min (length d - at) n → x ≡ clipped d at (replicate n v)
+  unfolding clipped
+  fill-end x d at n j v e h =
+      e ∙ ap (splice d at) (ap (λ (i : ℕ). replicate i v) h ∙ sym (take-replicate (length d - at) n v))
+
+  pub move-end : (x d : List A) (m n j : ℕ) → x ≡ splice d 0 (take j (drop m d)) → j ≡ min n (length d - m) → x ≡ splice d 0 (take n (drop m d))
+  move-end x d m n j e h =
+      e ∙ ap (splice d 0) (ap (λ (i : ℕ). take i (drop m d)) h ∙ take-min (drop m d) n (length d - m) (length-drop m d))
+
+-- the next turn of a loop that copies the images of the elements
+pub map-turn {ℓ κ} : {A : Type ℓ} {B : Type κ} (f : A → B) (x d : List B) (at : ℕ) (s : List A) (j : ℕ) (z : A)
+    → x ≡ splice d at (take j (map f s)) → j < length s → at + j < length d → set x (at + j) (f (getD s j z)) ≡ splice d at (take (j + 1) (map f s))
+map-turn f x d at s j z e h k =
+    ap (set x (at + j)) (sym (List·getD-map f s j z))
+    ∙ copy-turn x d at (map f s) j (f z) e (omega (arith, length-map s f)) k

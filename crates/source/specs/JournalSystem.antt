@@ -182,8 +182,9 @@ SyncReqs s = each (SyncReqState s) (M.syncReqsOf (s .machine))
 pub record Init (g : Geometry) (s : Variables) (loc : Location) : Type 0 where
   pub machine : M.Init (s .machine)
   pub disk : D.Init g (s .disk)
-  -- both slots hold a superblock, as the next two clauses of the source say again
   pub wf : WFDisk g (s .disk)
+  pub some1 : M.Some (at (s .disk .superblocks) false)
+  pub some2 : M.Some (at (s .disk .superblocks) true)
   pub start-is : SuperblockOfDisk g (s .disk) wf .journalStart ≡ 0
   pub len-is : SuperblockOfDisk g (s .disk) wf .journalLen ≡ 0
   pub loc-is : SuperblockOfDisk g (s .disk) wf .indirectionTableLoc ≡ loc

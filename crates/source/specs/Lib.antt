@@ -1,6 +1,7 @@
 pub mod Sets
 pub mod Codec
 pub mod JournalDisk
+pub mod MachineState
 pub mod JournalCache
 pub mod JournalSystem
 pub mod Limits

@@ -2,20 +2,22 @@
 -- facts take. That the ids within one table differ is said of the table: a set or a map has no id twice.
 use Prim.Native.Nat.{ℕ, _+_, _*_, _≤_, _<_}
 use mathlib.Core.Bool.{Bool, true, false, not}
-use mathlib.Core.Path.{_≡_}
+use mathlib.Core.Path.{_≡_, refl, sym, _∙_, ap, subst}
 use mathlib.Core.List.{List, []}
 use mathlib.Core.Option.{Option, none, some}
 use lib.ListN.{length, getD}
+use Rattle.laws.specs.Choice.{ruin}
 use Rattle.laws.specs.Fold.{sum}
 use Rattle.laws.specs.Cut.{lengths}
 use Rattle.layout.specs.declared.geometry.Geometry.{Geometry}
+use Rattle.layout.specs.declared.location.Location.{Location}
 use Rattle.layout.specs.Geometry.{NumJournalBlocks}
 use Rattle.interval.specs.declared.interval.JournalInterval.{JournalInterval}
 use Rattle.interval.specs.Facts.{ContiguousJournalInterval}
 use Rattle.interval.specs.Overlap.{journalIntervalOverlap, journalCyclicIntervalOverlap}
 use Rattle.interval.specs.Journal.{JournalBlock}
 use Rattle.superblock.specs.declared.superblock.Superblock.{Superblock}
-use Rattle.source.specs.Sets.{Ids, no-ids, join, Map, no-keys, bind, keys, AtMost, Two, both, at, put}
+use Rattle.source.specs.Sets.{Ids, no-ids, join, Map, no-keys, bind, keys, AtMost, none-few, none-some, Two, both, at, at-both, put}
 use Rattle.source.specs.Codec.{JournalEntry, JournalRange}
 use Rattle.source.specs.JournalDisk as D
 use Rattle.source.specs.JournalDisk.{ReqId, ReqWriteSuperblockId}
@@ -165,3 +167,50 @@ pub record StepLimits (L : Limits) (step : M.Step) : Type 0 where
   pub add-few : (es : List JournalEntry) → step ≡ M.Step.AdvanceStep es → length es ≤ L .stepEntries
   pub add-fit : (es : List JournalEntry) → step ≡ M.Step.AdvanceStep es → EntriesFit L es
   pub replay-few : (es : List JournalEntry) → step ≡ M.Step.ReplayStep es → length es ≤ L .stepEntries
+
+-- a store that meets `Init`, on blocks of their size, meets question 2
+init-machine : (g : Geometry) (L : Limits) → MachineMeets g L (M.Variables.LoadingSuperblock M.initial)
+init-machine g L =
+    record {
+      inv =
+          record {
+            success-read = λ which superblock e. ruin (cc (at-both M.SuperblockReadResult.SuperblockUnfinished which));
+            success-wf = λ which superblock e. ruin (cc (at-both M.SuperblockReadResult.SuperblockUnfinished which));
+            corruption-read = λ which e. ruin (cc (at-both M.SuperblockReadResult.SuperblockUnfinished which));
+          };
+      limits = record { sync-few = none-few (L .syncReqs); reads-differ = λ id p q. none-some refl p };
+    }
+
+init-disk : (g : Geometry) (L : Limits) (d : D.Variables) → D.Init g d → ((i : ℕ) (b : JournalBlock) → getD (d .journal) i none ≡ some b → length b ≡ BlockSize)
+    → DiskMeets g L d
+init-disk g L d h f =
+    record {
+      superblock-reads-few = λ which. subst (AtMost (L .superblockReads)) (sym (ap (λ (t : Two Ids). at t which) (h .no-superblock-reads) ∙ at-both no-ids which)) (none-few (L .superblockReads));
+      journal-reads-few = subst (λ (m : Map JournalInterval). AtMost (L .journalReads) (keys m)) (sym (h .no-journal-reads)) (none-few (L .journalReads));
+      journal-writes-few = subst (λ (m : Map JournalInterval). AtMost (L .journalWrites) (keys m)) (sym (h .no-journal-writes)) (none-few (L .journalWrites));
+      reads-contiguous = λ id v e. none-some (ap (λ (m : Map JournalInterval). m id) (h .no-journal-reads)) e;
+      writes-contiguous = λ id v e. none-some (ap (λ (m : Map JournalInterval). m id) (h .no-journal-writes)) e;
+      size = h .size;
+      block-size = f;
+    }
+
+init-joined : (g : Geometry) (s : Y.Variables) (loc : Location) → Y.Init g s loc → Joined g s
+init-joined g s loc h =
+    record {
+      wf = h .wf;
+      superblock-reads = h .disk .no-superblock-reads ∙ ap awaitedSuperblockReads (sym (h .machine));
+      journal-reads = h .disk .no-journal-reads ∙ ap (awaitedJournalReads g) (sym (h .machine));
+      superblock-writes = h .disk .no-superblock-writes ∙ ap awaitedSuperblockWrites (sym (h .machine));
+      journal-writes = ap keys (h .disk .no-journal-writes) ∙ ap awaitedJournalWrites (sym (h .machine));
+      writes-apart = λ id1 id2 v1 v2 p q o. none-some (ap (λ (m : Map JournalInterval). m id1) (h .disk .no-journal-writes)) p;
+      writes-clear = λ id v p. none-some (ap (λ (m : Map JournalInterval). m id) (h .disk .no-journal-writes)) p;
+    }
+
+pub init-meets : (g : Geometry) (L : Limits) (s : Y.Variables) (loc : Location) → Y.Init g s loc
+    → ((i : ℕ) (b : JournalBlock) → getD (s .disk .journal) i none ≡ some b → length b ≡ BlockSize) → SystemMeets g L s
+init-meets g L s loc h f =
+    record {
+      machine = subst (MachineMeets g L) (sym (h .machine)) (init-machine g L);
+      disk = init-disk g L (s .disk) (h .disk) f;
+      joined = init-joined g s loc h;
+    }

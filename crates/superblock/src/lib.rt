@@ -9,3 +9,7 @@ pub use disk_op::DiskOp;
 pub use disk_op::MaybeId;
 pub use disk_op::MaybeSuperblock;
 pub use superblock::Superblock;
+pub use superblock::increment_superblock_counter;
+pub use superblock::increments1;
+pub use superblock::select_superblock;
+pub use superblock::select_superblock_index;

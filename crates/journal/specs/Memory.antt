@@ -1,0 +1,77 @@
+-- The journal in lent memory: document 01's "Disk" lends N blocks of 4,096 bytes and N marks (1 readable, 0 not). Source 002's slices and
+-- updates over it, one for bytes and one for marks, and the questions that they ask.
+use Prim.Native.Nat.{ℕ, _+_, _*_}
+use mathlib.Core.Bool.{Bool, true, false, cond}
+use mathlib.Core.List.{List}
+use lib.Dec.{eqb, leb}
+use lib.ListN.{length, replicate}
+use Rattle.laws.specs.Choice.{also, either, ask, andThen, unless}
+use Rattle.laws.specs.Fold.{every}
+use Rattle.laws.specs.Splice.{splice}
+use Rattle.laws.specs.Ring.{around, spliceAround}
+use Rattle.layout.specs.declared.geometry.Geometry.{Geometry}
+use Rattle.layout.specs.Geometry.{NumJournalBlocks, askGeometry}
+use Rattle.interval.specs.declared.interval.JournalInterval.{JournalInterval}
+use Rattle.interval.specs.Interval.{validJournalInterval}
+use Rattle.interval.specs.Journal.{CyclicSlice}
+use Rattle.journal.specs.declared.journal.Copied.{Copied}
+use Rattle.journal.specs.declared.journal.Copied.the-variants as copied
+
+-- a mark is 0 or 1, and 1 where the block is readable
+unfoldable pub isMark : ℕ → Bool
+isMark m = leb m 1
+
+unfoldable pub isOne : ℕ → Bool
+isOne m = eqb m 1
+
+-- the bytes of an interval's blocks, and its marks
+unfoldable pub sliceBytes : List ℕ → JournalInterval → List ℕ
+sliceBytes blocks v = around blocks (v .start * 4096) (v .len * 4096)
+
+unfoldable pub sliceMarks : List ℕ → JournalInterval → List ℕ
+sliceMarks marks v = around marks (v .start) (v .len)
+
+-- the bytes and the marks after the interval's blocks were written
+unfoldable pub updateBytes : List ℕ → JournalInterval → List ℕ → List ℕ
+updateBytes blocks v new = spliceAround blocks (v .start * 4096) new
+
+unfoldable pub updateMarks : List ℕ → JournalInterval → List ℕ
+updateMarks marks v = spliceAround marks (v .start) (replicate (v .len) 1)
+
+-- every block of the interval is readable
+unfoldable pub fullMarks : List ℕ → JournalInterval → Bool
+fullMarks marks v = every isOne (sliceMarks marks v)
+
+-- question 1, of the blocks, and of the marks
+unfoldable pub askBlocks : Geometry → List ℕ → ℕ
+askBlocks g blocks = andThen (askGeometry g) (ask 1 (eqb (length blocks) (NumJournalBlocks g * 4096)))
+
+unfoldable pub askMarks : Geometry → List ℕ → ℕ
+askMarks g marks = andThen (askGeometry g) (ask 1 (also (eqb (length marks) (NumJournalBlocks g)) (every isMark marks)))
+
+unfoldable pub askJournal : Geometry → List ℕ → List ℕ → ℕ
+askJournal g blocks marks = andThen (askBlocks g blocks) (askMarks g marks)
+
+-- question 4, of an interval, and of new blocks for it
+unfoldable pub askIn : Geometry → JournalInterval → ℕ
+askIn g v = ask 4 (validJournalInterval g v)
+
+unfoldable pub askNew : JournalInterval → List ℕ → ℕ
+askNew v new = ask 4 (eqb (length new) (v .len * 4096))
+
+-- the questions of each function
+unfoldable pub askSliceBytes : Geometry → JournalInterval → List ℕ → List ℕ → ℕ
+askSliceBytes g v blocks out = andThen (askBlocks g blocks) (andThen (askBlocks g out) (askIn g v))
+
+unfoldable pub askSliceMarks : Geometry → JournalInterval → List ℕ → List ℕ → ℕ
+askSliceMarks g v marks out = andThen (askMarks g marks) (andThen (ask 1 (eqb (length out) (NumJournalBlocks g))) (askIn g v))
+
+unfoldable pub askFull : Geometry → JournalInterval → List ℕ → ℕ
+askFull g v marks = andThen (askMarks g marks) (askIn g v)
+
+unfoldable pub askUpdate : Geometry → JournalInterval → List ℕ → List ℕ → List ℕ → ℕ
+askUpdate g v new blocks marks = andThen (askJournal g blocks marks) (andThen (askIn g v) (askNew v new))
+
+-- the answer: how many blocks, or the refusal number
+abbrev pub copiedOf : ℕ → ℕ → Copied
+copiedOf q n = cond (eqb q 0) (copied.Blocks n) (copied.Refused q)

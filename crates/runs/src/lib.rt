@@ -1,0 +1,29 @@
+// Runs of elements in lent memory. The public face:
+//   lesser                                    the lesser of two numbers
+//   write_bytes, fill                         bytes from a place on, cut where the memory ends
+//   write_lengths, narrow, widen              lengths likewise: as they are, to single bytes, from single bytes
+//   write_bytes_around, narrow_around, fill_around   going round: what passes the memory's end goes to its front
+//   move_bytes, move_lengths                  a part moved to the front
+//   same_bytes, same_lengths                  are two runs equal?
+// Every function is total: what does not fit is cut, and a part that isn't there is empty. A loop that writes stores one element a turn
+// and does nothing else.
+mod around;
+mod compare;
+mod front;
+mod lengths;
+mod number;
+mod run;
+
+pub use around::fill_around;
+pub use around::narrow_around;
+pub use around::write_bytes_around;
+pub use compare::same_bytes;
+pub use compare::same_lengths;
+pub use front::move_bytes;
+pub use front::move_lengths;
+pub use lengths::narrow;
+pub use lengths::widen;
+pub use lengths::write_lengths;
+pub use number::lesser;
+pub use run::fill;
+pub use run::write_bytes;
