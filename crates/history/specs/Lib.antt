@@ -12,3 +12,5 @@ pub mod Calls
 pub mod Steps
 pub mod Reloaded
 pub mod Whole
+pub mod Format
+pub mod Demand
