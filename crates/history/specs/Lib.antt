@@ -14,3 +14,6 @@ pub mod Reloaded
 pub mod Whole
 pub mod Format
 pub mod Demand
+pub mod LoadsSuperblocks
+pub mod LoadsJournal
+pub mod Loads
