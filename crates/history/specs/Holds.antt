@@ -10,7 +10,7 @@ use native.Mathlib.Nat.{mod-eq-of-lt, mod-eq-sub-mod}
 use native.Mathlib.Omega.{arith}
 use lib.ListN.{length, drop, getD, length-append, length-map}
 use lib.Seq.{drop-at, ext-getD}
-use Rattle.laws.specs.Ring.{wrap, off, by-wrap, by-off, wrap-in, wrap-off, off-in, off-shift, off-wrap}
+use Rattle.laws.specs.Ring.{wrap, off, by-wrap, wrap-in, wrap-add, wrap-off, off-wrap}
 use Rattle.layout.specs.declared.geometry.Geometry.{Geometry}
 use Rattle.layout.specs.Journal.{JournalPosAdd}
 use Rattle.layout.specs.Laws.{pos-add-wrap}
@@ -50,31 +50,38 @@ Apart g a b = Shares g a b → ⊥
 valid : (g : Geometry) (start len : ℕ) → start < g .blocks → len ≤ g .blocks → ValidJournalInterval g (interval start len)
 valid g start len h l = record { start-in = h; len-in = l }
 
--- what lies behind w blocks shares none with the first a of them
-pub behind-apart : (g : Geometry) (start a w b : ℕ) → start < g .blocks → a ≤ w → w + b ≤ g .blocks
-    → Apart g (interval (JournalPosAdd g start w) b) (interval start a)
-behind-apart g start a w b h l k s =
-    far (in-range-off g (interval start a) (valid g start a h (omega arith)) (s .block) (s .block-in) (s .second))
-    (in-range-off g (interval (JournalPosAdd g start w) b) (valid g (JournalPosAdd g start w) b (pos-add-in g start w h (omega arith)) (omega arith)) (s .block) (s .block-in) (s .first))
+-- a block behind w blocks, in an interval of b: seen from the start its offset is from w on, up to w + b
+pub behind-off : (g : Geometry) (start w b i : ℕ) → start < g .blocks → w + b ≤ g .blocks → i < g .blocks → InCyclicRange g i (interval (JournalPosAdd g start w) b)
+    → (w ≤ off (g .blocks) start i) × (off (g .blocks) start i < w + b)
+behind-off g start w b i h k l r = (omega (arith, is, short), omega (arith, is, short))
   where
     N : ℕ
     N = g .blocks
 
+    place : ℕ
+    place = JournalPosAdd g start w
+
+    place-in : place < N
+    place-in = pos-add-in g start w h (omega (arith, k))
+
     t : ℕ
-    t = off N start (s .block)
+    t = off N place i
 
-    seen : w < N → off N (JournalPosAdd g start w) (s .block) ≡ off N w t
-    seen z =
-        (λ i. off N (pos-add-wrap g start w i) (sym (wrap-off N start (s .block) h (s .block-in)) i))
-        ∙ off-shift N start w t h z (off-in N start (s .block) h (s .block-in))
+    short : t < b
+    short = in-range-off g (interval place b) (valid g place b place-in (omega (arith, k))) i l r
 
-    far : t < a → off N (JournalPosAdd g start w) (s .block) < b → ⊥
-    far x y =
-        let z : w < N = omega (arith, k, y) in
-        by-off (λ (o : ℕ). o < b → ⊥) N w t
-        (λ m n. omega (arith, l, x, m))
-        (λ m n. omega (arith, l, k, x, n))
-        (rw (seen z) at y)
+    is : off N start i ≡ w + t
+    is =
+        ap (off N start) (sym (wrap-off N place i place-in l) ∙ ap (λ (n : ℕ). wrap N (n + t)) (pos-add-wrap g start w) ∙ wrap-add N start w t h (omega (arith, k, short)))
+        ∙ off-wrap N start (w + t) h (omega (arith, k, short))
+
+-- so it is none of the first a blocks, for a up to w
+pub behind-apart : (g : Geometry) (start a w b : ℕ) → start < g .blocks → a ≤ w → w + b ≤ g .blocks
+    → Apart g (interval (JournalPosAdd g start w) b) (interval start a)
+behind-apart g start a w b h l k s =
+    let far = behind-off g start w b (s .block) h k (s .block-in) (s .first) .0 in
+    let near = in-range-off g (interval start a) (valid g start a h (omega arith)) (s .block) (s .block-in) (s .second) in
+    omega arith
 
 -- a write's pieces are parts of it
 pub wrapped-in : (g : Geometry) (req : ReqWriteJournal) (b : JournalInterval) → ValidJournalInterval g (written req)

@@ -17,3 +17,8 @@ pub mod Demand
 pub mod LoadsSuperblocks
 pub mod LoadsJournal
 pub mod Loads
+pub mod Neat
+pub mod NeatWrites
+pub mod NeatReads
+pub mod NeatSteps
+pub mod Reachable

@@ -119,7 +119,7 @@ read-put results values true h false = h false
 read-put results values false h true = h true
 read-put results values false h false = inr refl
 
-none-if : (o : Option ReqId) → ((id : ReqId) → o ≡ some id → ⊥) → o ≡ none
+pub none-if : (o : Option ReqId) → ((id : ReqId) → o ≡ some id → ⊥) → o ≡ none
 none-if none f = refl
 none-if (some id) f = absurd (f id refl)
 

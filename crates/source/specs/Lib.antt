@@ -9,3 +9,4 @@ pub mod Departures
 pub mod Unique
 pub mod Answers
 pub mod Open
+pub mod Preserved
