@@ -1,34 +1,31 @@
 -- The relation through the answer to a commit, through answers that nobody awaits, a damaged journal answer, ask again, and the crash.
-use Prim.Native.Nat.{ℕ, _+_, _-_, _≤_, _<_}
+use Prim.Native.Nat.{ℕ, _-_}
 use mathlib.Core.Bool.{Bool, true, false, not}
 use mathlib.Core.Path.{_≡_, refl, sym, _∙_, ap, subst}
-use mathlib.Core.List.{List, [], _∷_, _++_}
-use mathlib.Core.Option.{Option, none, some, Option·some-injective}
+use mathlib.Core.List.{List, _++_}
+use mathlib.Core.Option.{Option, none, some}
 use native.Mathlib.Omega.{arith}
-use lib.ListN.{length}
 use Rattle.laws.specs.Choice.{ruin}
 use Rattle.laws.specs.Fold.{Each}
 use Rattle.layout.specs.declared.geometry.Geometry.{Geometry}
-use Rattle.layout.specs.declared.location.Location.{Location}
 use Rattle.interval.specs.declared.interval.JournalInterval.{JournalInterval}
 use Rattle.interval.specs.Interval.{interval}
 use Rattle.superblock.specs.declared.superblock.Superblock.{Superblock}
-use Rattle.superblock.specs.Superblock.{IncrementSuperblockCounter}
 use Rattle.superblock.specs.Laws.{WFSuperblock}
-use Rattle.source.specs.Sets.{Ids, isKey, Map, Two, both, at, put, none-some, at-both, same-value}
-use Rattle.source.specs.Codec.{JournalRange, Codec}
+use Rattle.source.specs.Sets.{Ids, isKey, Map, Two, both, at, put, none-some, same-value}
+use Rattle.source.specs.Codec.{Codec}
 use Rattle.source.specs.JournalDisk as D
-use Rattle.source.specs.JournalDisk.{ReqId, ReqWriteSuperblockId, DiskOp, RespReadSuperblockOp, RespReadJournalOp, RespWriteSuperblockOp, RespWriteJournalOp, NoDiskOp}
+use Rattle.source.specs.JournalDisk.{ReqId, ReqWriteSuperblockId, DiskOp}
 use Rattle.source.specs.JournalCache as M
-use Rattle.source.specs.JournalCache.{SuperblockUnfinished, SuperblockSuccess, CommitNone, CommitAdvanceLog, CommitAdvanceLocation}
+use Rattle.source.specs.JournalCache.{SuperblockUnfinished, SuperblockSuccess}
 use Rattle.source.specs.Departures.{DamagedJournal, AskAgain}
-use Rattle.history.specs.Ledger.{Range, blocks, Kept, Commit, log, location, Request, Ledger, fresh}
+use Rattle.history.specs.Ledger.{Range, blocks, Kept, Commit, log, location, Ledger, fresh}
 use Rattle.history.specs.Codes.{Good, codes, length-codes, blocks-none}
 use Rattle.history.specs.Holds.{Holds, Apart, holds-crashed}
 use Rattle.history.specs.Slots.{Slots, slots-wf, slots-not-yet}
-use Rattle.history.specs.Relation.{superOf, keptInterval, OnDisk, Standing, Flight, idle, busy, statusOf, toSlot, Owes, Quiet, Asked, Done, Phase, quiet, waits, done, Live, Told, flightOf, Runs, Sim}
+use Rattle.history.specs.Relation.{superOf, OnDisk, Standing, Flight, busy, statusOf, toSlot, Owes, Asked, Done, Phase, quiet, waits, done, flightOf, Sim}
 use Rattle.history.specs.Loading.{by-next, Keeps, told-put}
-use Rattle.history.specs.Working.{no-keys-some, on-writing}
+use Rattle.history.specs.Working.{no-keys-some}
 use Rattle.history.specs.Commits.{at-slot, slot-answered, none-there}
 use Rattle.history.specs.Landing.{kept-counter}
 

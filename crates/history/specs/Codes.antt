@@ -1,17 +1,17 @@
 -- Ranges one after another as blocks: how many they are, that they parse to their entries in order, and that a full piece of the journal
 -- is the blocks that were read from it.
-use Prim.Native.Nat.{ℕ, _+_, _-_, _≤_, _<_}
-use mathlib.Core.Bool.{Bool, true, false}
+use Prim.Native.Nat.{ℕ, _+_}
+use mathlib.Core.Bool.{true}
 use mathlib.Core.Path.{_≡_, refl, sym, _∙_, ap}
-use mathlib.Core.List.{List, [], _∷_, _++_, append-assoc, append-nil, map, map-append}
+use mathlib.Core.List.{List, [], _∷_, _++_, append-assoc, append-nil, map}
 use mathlib.Core.Option.{Option, none, some}
 use native.Mathlib.Omega.{arith}
-use lib.ListN.{length, length-append, length-map}
-use Rattle.laws.specs.Choice.{also, also-right, false-true, false-also}
-use Rattle.laws.specs.Fold.{every, Each, each-append}
+use lib.ListN.{length, length-append}
+use Rattle.laws.specs.Choice.{also, false-true}
+use Rattle.laws.specs.Fold.{every, Each}
 use Rattle.laws.specs.Cut.{flat}
-use Rattle.interval.specs.Journal.{JournalBlock, fullRange, readable}
-use Rattle.source.specs.Codec.{JournalEntry, JournalRange, Codec, concatFold}
+use Rattle.interval.specs.Journal.{JournalBlock, fullRange}
+use Rattle.source.specs.Codec.{JournalRange, Codec, concatFold}
 use Rattle.history.specs.Ledger.{Range, blocks}
 
 -- one range can hold the entries

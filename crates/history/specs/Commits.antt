@@ -1,37 +1,32 @@
 -- The relation through the two commit requests, their landing, and the answer. The landing is where the ledger keeps what was asked for;
 -- the machine hears of it with the answer.
-use Prim.Native.Nat.{ℕ, _+_, _-_, _%_, _≤_, _<_}
+use Prim.Native.Nat.{ℕ, _+_, _-_, _%_}
 use mathlib.Core.Bool.{Bool, true, false, not}
-use mathlib.Core.Path.{_≡_, refl, sym, _∙_, ap, subst, subst₂}
-use mathlib.Core.List.{List, [], _∷_, _++_}
+use mathlib.Core.Path.{_≡_, refl, sym, _∙_, ap, subst}
 use mathlib.Core.Option.{Option, none, some, Option·getD, Option·some-injective}
-use mathlib.Core.Logic.{_⊎_, inl, inr}
+use mathlib.Core.Logic.{inr}
 use native.Mathlib.Omega.{arith}
-use lib.ListN.{length, drop}
-use lib.Seq.{drop-at}
-use Rattle.laws.specs.Choice.{ruin, true-false, false-true}
-use Rattle.laws.specs.Fold.{Each, each-right}
+use Rattle.laws.specs.Choice.{ruin, true-false}
 use Rattle.layout.specs.declared.geometry.Geometry.{Geometry}
 use Rattle.layout.specs.declared.location.Location.{Location}
 use Rattle.layout.specs.Journal.{JournalPosAdd}
 use Rattle.interval.specs.declared.interval.JournalInterval.{JournalInterval}
-use Rattle.interval.specs.Journal.{JournalBlock}
 use Rattle.superblock.specs.declared.superblock.Superblock.{Superblock}
 use Rattle.superblock.specs.Superblock.{IncrementSuperblockCounter}
 use Rattle.superblock.specs.Laws.{WFSuperblock}
-use Rattle.source.specs.Sets.{Ids, no-ids, Map, no-keys, isKey, keys, Two, both, at, put, none-some, at-both, same-value}
-use Rattle.source.specs.Codec.{JournalRange, Codec}
+use Rattle.source.specs.Sets.{Ids, no-ids, Map, no-keys, isKey, keys, Two, both, at, put, none-some, at-both}
+use Rattle.source.specs.Codec.{Codec}
 use Rattle.source.specs.JournalDisk as D
-use Rattle.source.specs.JournalDisk.{ReqId, ReqWriteSuperblockId, DiskOp}
+use Rattle.source.specs.JournalDisk.{ReqId, ReqWriteSuperblockId}
 use Rattle.source.specs.JournalCache as M
-use Rattle.source.specs.JournalCache.{CommitAdvanceLog, CommitAdvanceLocation, advancedLog, advancedLocation}
-use Rattle.history.specs.Ledger.{Range, blocks, Kept, Draft, Commit, log, location, Request, Ledger, asked, keptBy, leftBy, landed}
-use Rattle.history.specs.Codes.{Good, codes, codes-append, length-codes, blocks-none, blocks-append}
-use Rattle.history.specs.Holds.{Holds, pos-add-mod, pos-add-in, holds-moved}
-use Rattle.history.specs.Slots.{parity, next-parity, Slots, slots-wf, slots-land, slots-again, slots-not-yet}
-use Rattle.history.specs.Relation.{superOf, OnDisk, Standing, Flight, idle, busy, statusOf, toSlot, Owes, Quiet, Asked, Done, Phase, quiet, waits, done, Live, flightOf, Sim}
+use Rattle.source.specs.JournalCache.{advancedLog, advancedLocation}
+use Rattle.history.specs.Ledger.{blocks, Commit, log, location, Ledger, asked, keptBy}
+use Rattle.history.specs.Codes.{blocks-append}
+use Rattle.history.specs.Holds.{pos-add-mod, pos-add-in}
+use Rattle.history.specs.Slots.{slots-wf}
+use Rattle.history.specs.Relation.{superOf, Standing, statusOf, toSlot, Quiet, waits, flightOf, Sim}
 use Rattle.history.specs.Loading.{by-next, Keeps}
-use Rattle.history.specs.Working.{on-quiet, busy-idle, no-keys-some}
+use Rattle.history.specs.Working.{on-quiet}
 
 -- no id is outstanding: no write is in flight
 pub no-keys-of : (m : Map JournalInterval) → keys m ≡ no-ids → m ≡ no-keys

@@ -1,21 +1,21 @@
 -- Document 01's range format as the relations' `Codec`: a range's bytes are cut into blocks of 4,096, and blocks parse where their bytes do.
-use Prim.Native.Nat.{ℕ, _+_, _*_, _≤_, _<_}
+use Prim.Native.Nat.{_+_, _<_}
 use mathlib.Core.Bool.{Bool, true}
 use mathlib.Core.Path.{_≡_, refl, sym, _∙_, ap}
 use mathlib.Core.List.{List, [], _∷_, _++_, append-nil}
-use mathlib.Core.Option.{Option, none, some}
+use mathlib.Core.Option.{Option, some}
 use native.Mathlib.Omega.{arith}
 use lib.Dec.{leb}
 use borrow.Author.Tests.{leb-true, le-leb}
-use lib.ListN.{length, getD, replicate, length-replicate, getD-replicate}
+use lib.ListN.{length, replicate, length-replicate}
 use Rattle.laws.specs.Choice.{also, also-left, also-right, also-both}
-use Rattle.laws.specs.Fold.{sum, every, Each, sum-replicate}
-use Rattle.laws.specs.Cut.{cut, flat, lengths, length-cut, length-lengths, flat-append, lengths-cut, flat-even}
+use Rattle.laws.specs.Fold.{sum, every, sum-replicate}
+use Rattle.laws.specs.Cut.{cut, flat, lengths, length-cut, flat-append, lengths-cut, flat-even}
 use Rattle.range.specs.Form as Form
-use Rattle.range.specs.Form.{Entry, BlockSize, MostEntries, MostEntryLength, LengthWidth, okLength, encodeAt, blocksAt, blocksAllAt, parseAllAt}
+use Rattle.range.specs.Form.{Entry, BlockSize, MostEntries, MostEntryLength, LengthWidth, okLength, blocksAllAt, parseAllAt}
 use Rattle.range.specs.Blocks.{format-sizes, blocks-some, length-encodeAt}
 use Rattle.range.specs.Ranges.{parseAll-none, parseAll-append, encodeAll-one, parseAll-encodeAll}
-use Rattle.source.specs.Codec.{JournalEntry, JournalRange, Codec}
+use Rattle.source.specs.Codec.{JournalRange, Codec}
 use Rattle.history.specs.Ledger.{Range, blocks}
 
 -- the test of what one range can hold: from 1 to 1,024 entries of 1 to 255 bytes

@@ -1,29 +1,28 @@
 -- What the journal holds from a place on, going round, for every N: through a write elsewhere, a write behind it, a start moved on, and a
 -- crash. By the laws of slices and updates of crate interval; no overlap and no block index by hand.
 use Prim.Native.Nat.{ℕ, _+_, _-_, _%_, _≤_, _<_}
-use mathlib.Core.Bool.{Bool, true, false, cond}
-use mathlib.Core.Path.{_≡_, refl, sym, _∙_, ap, subst}
-use mathlib.Core.List.{List, [], _∷_, _++_, map, map-append}
+use mathlib.Core.Path.{_≡_, sym, _∙_, ap}
+use mathlib.Core.List.{List, [], _++_, map-append}
 use mathlib.Core.Option.{Option, none, some}
-use mathlib.Core.Logic.{_⊎_, inl, inr, ⊎-elim}
+use mathlib.Core.Logic.{inl, inr, ⊎-elim}
 use native.Mathlib.Nat.{mod-eq-of-lt, mod-eq-sub-mod}
 use native.Mathlib.Omega.{arith}
-use lib.ListN.{length, drop, getD, length-append, length-map}
+use lib.ListN.{length, drop, length-append, length-map}
 use lib.Seq.{drop-at, ext-getD}
 use Rattle.laws.specs.Ring.{wrap, off, by-wrap, wrap-in, wrap-add, wrap-off, off-wrap}
 use Rattle.layout.specs.declared.geometry.Geometry.{Geometry}
 use Rattle.layout.specs.Journal.{JournalPosAdd}
 use Rattle.layout.specs.Laws.{pos-add-wrap}
 use Rattle.interval.specs.declared.interval.JournalInterval.{JournalInterval}
-use Rattle.interval.specs.Interval.{interval, NextStartPoint}
+use Rattle.interval.specs.Interval.{interval}
 use Rattle.interval.specs.Facts.{ValidJournalInterval, InCyclicRange}
 use Rattle.interval.specs.Journal.{JournalBlock, JournalUpdate, CyclicSlice}
 use Rattle.interval.specs.Laws.{next-start-wrap, in-range-off, off-in-range, length-slice, slice-at, slice-none, adjacent-slices, slice-moved}
-use Rattle.interval.specs.Update.{updated, Shares, update-updated, slice-updated, slice-elsewhere}
+use Rattle.interval.specs.Update.{Shares, update-updated, slice-updated, slice-elsewhere}
 use Rattle.source.specs.Sets.{Map}
 use Rattle.source.specs.Codec.{JournalRange}
 use Rattle.source.specs.JournalDisk.{ReqId, ReqWriteJournal, havocJournal, written, written1, written2}
-use Rattle.history.specs.Codes.{whole, whole-same}
+use Rattle.history.specs.Codes.{whole}
 
 -- a position moved on, modulo N
 pub pos-add-mod : (g : Geometry) (start k : ℕ) → start < g .blocks → k ≤ g .blocks → JournalPosAdd g start k ≡ (start + k) % g .blocks

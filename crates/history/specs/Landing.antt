@@ -1,10 +1,10 @@
 -- The relation through a landing, first and again, and through the answer that tells the machine of it; an answer before the landing
 -- cannot be.
-use Prim.Native.Nat.{ℕ, _+_, _-_, _%_, _≤_, _<_}
-use mathlib.Core.Bool.{Bool, true, false, not}
-use mathlib.Core.Path.{_≡_, refl, sym, _∙_, ap, subst, subst₂}
-use mathlib.Core.List.{List, [], _∷_, _++_}
-use mathlib.Core.Option.{Option, none, some, Option·some-injective}
+use Prim.Native.Nat.{ℕ, _+_, _%_, _≤_, _<_}
+use mathlib.Core.Bool.{Bool, not}
+use mathlib.Core.Path.{_≡_, refl, sym, _∙_, ap, subst}
+use mathlib.Core.List.{List, _++_}
+use mathlib.Core.Option.{Option, some}
 use native.Mathlib.Omega.{arith}
 use lib.ListN.{length, drop}
 use lib.Seq.{drop-at}
@@ -14,20 +14,18 @@ use Rattle.layout.specs.Journal.{JournalPosAdd}
 use Rattle.interval.specs.Journal.{JournalBlock}
 use Rattle.superblock.specs.declared.superblock.Superblock.{Superblock}
 use Rattle.superblock.specs.Superblock.{IncrementSuperblockCounter}
-use Rattle.superblock.specs.Laws.{WFSuperblock}
-use Rattle.source.specs.Sets.{Two, both, at, put, none-some, at-both, same-value}
+use Rattle.source.specs.Sets.{Two, at, put}
 use Rattle.source.specs.Codec.{Codec}
 use Rattle.source.specs.JournalDisk as D
-use Rattle.source.specs.JournalDisk.{ReqId, ReqWriteSuperblockId}
+use Rattle.source.specs.JournalDisk.{ReqWriteSuperblockId}
 use Rattle.source.specs.JournalCache as M
-use Rattle.source.specs.JournalCache.{CommitNone, CommitAdvanceLog, CommitAdvanceLocation}
 use Rattle.history.specs.Ledger.{Range, blocks, Kept, Draft, Commit, log, location, Request, Ledger, keptBy, leftBy, landed}
-use Rattle.history.specs.Codes.{Good, codes, codes-append, length-codes, blocks-none, blocks-append}
+use Rattle.history.specs.Codes.{Good, codes, codes-append, length-codes, blocks-append}
 use Rattle.history.specs.Holds.{Holds, pos-add-mod, holds-moved}
-use Rattle.history.specs.Slots.{parity, next-parity, Slots, slots-wf, slots-land, slots-again, slots-not-yet}
-use Rattle.history.specs.Relation.{superOf, OnDisk, Standing, Flight, idle, busy, statusOf, toSlot, Owes, Quiet, Asked, Done, Phase, quiet, waits, done, Live, flightOf, Runs, Sim}
-use Rattle.history.specs.Loading.{by-next, Keeps}
-use Rattle.history.specs.Working.{Values, busy-idle, no-keys-some}
+use Rattle.history.specs.Slots.{parity, next-parity, Slots, slots-wf, slots-land, slots-again}
+use Rattle.history.specs.Relation.{superOf, Standing, Owes, Asked, Done, Phase, quiet, waits, done, flightOf, Sim}
+use Rattle.history.specs.Loading.{by-next}
+use Rattle.history.specs.Working.{no-keys-some}
 use Rattle.history.specs.Commits.{at-slot, none-there, not-not}
 
 -- both commits step the counter

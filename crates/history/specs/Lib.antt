@@ -22,3 +22,8 @@ pub mod NeatWrites
 pub mod NeatReads
 pub mod NeatSteps
 pub mod Reachable
+pub mod Can
+pub mod ExampleLoad
+pub mod ExampleStates
+pub mod ExampleDay
+pub mod Example

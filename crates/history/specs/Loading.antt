@@ -1,35 +1,29 @@
 -- The relation through the steps of a loading machine, and through those that leave what it speaks of: sync requests, replay, answers that
 -- nobody awaits, ask again, a damaged journal answer, and the crash.
-use Prim.Native.Nat.{ℕ, _+_, _-_, _≤_, _<_}
-use mathlib.Core.Bool.{Bool, true, false, cond, not}
+use Prim.Native.Nat.{ℕ}
+use mathlib.Core.Bool.{Bool, true, false, cond}
 use mathlib.Core.Path.{_≡_, refl, sym, _∙_, ap, subst, subst₂}
-use mathlib.Core.List.{List, [], _∷_, _++_, append-nil}
-use mathlib.Core.Option.{Option, none, some, Option·getD, Option·some-injective}
-use mathlib.Core.Logic.{_⊎_, inl, inr, ⊎-elim}
+use mathlib.Core.List.{List}
+use mathlib.Core.Option.{Option, none, some, Option·some-injective}
 use native.Mathlib.Omega.{arith}
-use lib.ListN.{length}
 use Rattle.laws.specs.Choice.{ruin}
-use Rattle.laws.specs.Cut.{flat}
 use Rattle.layout.specs.declared.geometry.Geometry.{Geometry}
 use Rattle.interval.specs.declared.interval.JournalInterval.{JournalInterval}
-use Rattle.interval.specs.Interval.{interval, JournalFrontInterval, JournalBackInterval}
 use Rattle.interval.specs.Journal.{JournalBlock, CyclicSlice}
-use Rattle.interval.specs.Laws.{sliceOf, front-back-slice}
 use Rattle.superblock.specs.declared.superblock.Superblock.{Superblock}
 use Rattle.superblock.specs.Superblock.{SelectSuperblock, wfSuperblock}
 use Rattle.superblock.specs.Laws.{WFSuperblock}
-use Rattle.source.specs.Sets.{Map, no-keys, bind, unbind, same-value, keys, Two, both, at, put, none-some, at-both, at-put}
+use Rattle.source.specs.Sets.{Map, bind, unbind, same-value, keys, Two, at, put, none-some, at-both}
 use Rattle.source.specs.Codec.{JournalEntry, JournalRange, Codec}
 use Rattle.source.specs.JournalDisk as D
-use Rattle.source.specs.JournalDisk.{ReqId, ReqWriteSuperblockId, DiskOp, RespReadSuperblockOp}
+use Rattle.source.specs.JournalDisk.{DiskOp}
 use Rattle.source.specs.JournalCache as M
-use Rattle.source.specs.JournalCache.{SuperblockReadResult, SuperblockSuccess, SuperblockUnfinished, SuperblockCorruption, superblockRead, journalIntervalOfSuperblock}
+use Rattle.source.specs.JournalCache.{SuperblockReadResult, SuperblockSuccess, SuperblockCorruption, superblockRead, journalIntervalOfSuperblock}
 use Rattle.source.specs.Departures.{FinishLoadingOtherPhase⁺}
 use Rattle.history.specs.Ledger.{blocks, Kept, Ledger, fresh}
-use Rattle.history.specs.Codes.{codes, whole, full-whole, whole-same, length-codes, blocks-none}
-use Rattle.history.specs.Holds.{Holds}
+use Rattle.history.specs.Codes.{whole, full-whole, blocks-none}
 use Rattle.history.specs.Slots.{Slots, picked-is, slots-value, slots-wf}
-use Rattle.history.specs.Relation.{superOf, OnDisk, Standing, Quiet, Asked, Done, Phase, quiet, waits, done, Live, Resting, Told, Pieces, Paged, ReadsStand, Runs, Sim, toSlot}
+use Rattle.history.specs.Relation.{superOf, quiet, Told, Pieces, ReadsStand, Runs, Sim}
 
 -- a superblock read that came back whole and well formed is the answer's
 pub read-success : (g : Geometry) (o : Option Superblock) (v : Superblock) → superblockRead g o ≡ SuperblockSuccess v → o ≡ some v

@@ -1,15 +1,13 @@
 -- A store comes up: from any state that a crash leaves, related to a ledger and with blocks of their size, some loading steps are allowed
 -- that lead to Ready, and the machine there is the one that the ledger tells. So a history of demand 3 can be had from every crash that is
 -- taken.
-use Prim.Native.Nat.{ℕ, _+_, _≤_, _<_}
+use Prim.Native.Nat.{ℕ}
 use mathlib.Core.Bool.{Bool, true, false, not}
 use mathlib.Core.Path.{_≡_, refl, sym, _∙_, ap, subst}
 use mathlib.Core.List.{List, [], _∷_, _++_}
 use mathlib.Core.Option.{Option, none, some}
-use mathlib.Core.Logic.{_⊎_, inl, inr}
-use native.Mathlib.Omega.{arith}
+use mathlib.Core.Logic.{inl, inr}
 use lib.ListN.{length}
-use Rattle.laws.specs.Cut.{flat}
 use Rattle.layout.specs.declared.geometry.Geometry.{Geometry}
 use Rattle.layout.specs.declared.location.Location.{Location}
 use Rattle.interval.specs.declared.interval.JournalInterval.{JournalInterval}
@@ -20,8 +18,7 @@ use Rattle.superblock.specs.Superblock.{SelectSuperblock}
 use Rattle.superblock.specs.Laws.{WFSuperblock}
 use Rattle.source.specs.Sets.{no-ids, no-keys, AtMost, none-few, Two, both, at, put, none-some, at-both, at-put, at-put-other}
 use Rattle.source.specs.Codec.{JournalRange, Codec, Disk-JournalRange}
-use Rattle.source.specs.JournalDisk as D
-use Rattle.source.specs.JournalDisk.{ReqId, NoDiskOp}
+use Rattle.source.specs.JournalDisk.{NoDiskOp}
 use Rattle.source.specs.JournalCache as M
 use Rattle.source.specs.JournalCache.{SuperblockReadResult, SuperblockSuccess, SuperblockUnfinished, FinishLoadingSuperblockPhaseStep, FinishLoadingOtherPhaseStep, journalIntervalOfSuperblock, loaded}
 use Rattle.source.specs.JournalSystem as Y
@@ -35,12 +32,12 @@ use Rattle.history.specs.Relation.{superOf, Pieces, Sim}
 use Rattle.history.specs.Calls.{Tied, tied-finish-superblocks, tied-finish-other, tied-crash, Takes}
 use Rattle.history.specs.Steps.{sim-step}
 use Rattle.history.specs.Reloaded.{loads, readyBy, loaded-whole}
-use Rattle.history.specs.Whole.{Trace, OnlyLoads, Loaded, sim-run, firstParity, init-sim, crash-init}
+use Rattle.history.specs.Whole.{Trace, OnlyLoads, Loaded, sim-run, firstParity, init-sim}
 use Rattle.history.specs.LoadsSuperblocks.{resting, Sized, Room, disk-meets, joined, Read, read-put, superblocksAt, machine-superblocks, slot-read}
 use Rattle.history.specs.LoadsJournal.{otherAt, Owned, machine-other, page-read, page-held, page-owned}
 
 -- lists one after another
-trace-append : (g : Geometry) (C : Codec) (L : Limits) (s u t : Y.Variables) (xs : List Call) (bs : List Bool) (ys : List Call) (cs : List Bool) → Trace g C L s xs bs u → Trace g C L u ys cs t
+pub trace-append : (g : Geometry) (C : Codec) (L : Limits) (s u t : Y.Variables) (xs : List Call) (bs : List Bool) (ys : List Call) (cs : List Bool) → Trace g C L s xs bs u → Trace g C L u ys cs t
     → Trace g C L s (xs ++ ys) (bs ++ cs) t
 trace-append g C L s u t [] [] ys cs h k = subst (λ (x : Y.Variables). Trace g C L x ys cs t) h k
 trace-append g C L s u t [] (b ∷ bs) ys cs h k = absurd h

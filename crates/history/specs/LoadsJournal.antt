@@ -1,11 +1,9 @@
 -- The second half of a load: each piece of the selected interval is asked for and answered whole, for its blocks are all readable. Every
 -- state on the way meets question 2.
-use Prim.Native.Nat.{ℕ, _+_, _-_, _≤_, _<_}
 use mathlib.Core.Bool.{Bool, true, false, not}
 use mathlib.Core.Path.{_≡_, refl, sym, _∙_, ap, subst}
-use mathlib.Core.List.{List, [], _∷_, _++_}
+use mathlib.Core.List.{List, [], _∷_}
 use mathlib.Core.Option.{Option, none, some, Option·some-injective}
-use native.Mathlib.Omega.{arith}
 use lib.ListN.{length, length-map}
 use Rattle.laws.specs.Choice.{also, also-left, also-right}
 use Rattle.laws.specs.Fold.{every, every-append}
@@ -17,7 +15,7 @@ use Rattle.interval.specs.Journal.{JournalBlock, CyclicSlice, fullRange, readab
 use Rattle.interval.specs.Laws.{Contiguous?, parts-fit, sliceOf, front-back-slice, length-slice}
 use Rattle.superblock.specs.declared.superblock.Superblock.{Superblock}
 use Rattle.superblock.specs.Laws.{WFSuperblock}
-use Rattle.source.specs.Sets.{no-ids, Map, no-keys, bind, keys, AtMost, none-few, Two, both, at, put, none-some, same-value, at-both, at-put, at-put-other, bind-here}
+use Rattle.source.specs.Sets.{no-ids, no-keys, bind, AtMost, none-few, Two, both, at, put, none-some, same-value, at-both, at-put, bind-here}
 use Rattle.source.specs.Codec.{JournalRange, Codec, Disk-JournalRange}
 use Rattle.source.specs.JournalDisk.{ReqId, ReqReadJournalOp, RespReadJournalOp}
 use Rattle.source.specs.JournalCache as M
@@ -30,7 +28,7 @@ use Rattle.history.specs.Codes.{whole, full-whole}
 use Rattle.history.specs.Slots.{Slots, slots-wf}
 use Rattle.history.specs.Relation.{Pieces}
 use Rattle.history.specs.Loading.{pieces-put}
-use Rattle.history.specs.Working.{Values, values-bind}
+use Rattle.history.specs.Working.{values-bind}
 use Rattle.history.specs.Calls.{tied-page, tied-paged, Takes}
 use Rattle.history.specs.Whole.{Trace}
 use Rattle.history.specs.LoadsSuperblocks.{reading, resting, Sized, Room, one-few, bind-unbind, keys-one, disk-meets, joined, one, one-only, one-differs, one-answered}

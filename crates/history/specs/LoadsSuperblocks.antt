@@ -1,10 +1,10 @@
 -- The first half of a load: from a disk at rest each slot is asked for and answered whole. Every state on the way meets question 2.
-use Prim.Native.Nat.{ℕ, _+_, _-_, _≤_, _<_}
+use Prim.Native.Nat.{ℕ, _≤_}
 use mathlib.Core.Bool.{Bool, true, false, cond, not}
 use mathlib.Core.Path.{_≡_, refl, sym, _∙_, ap, subst}
-use mathlib.Core.List.{List, [], _∷_, _++_}
+use mathlib.Core.List.{List, [], _∷_}
 use mathlib.Core.Option.{Option, none, some}
-use mathlib.Core.Logic.{_⊎_, inl, inr, ⊎-elim}
+use mathlib.Core.Logic.{_⊎_, inr, ⊎-elim}
 use native.Mathlib.Omega.{arith}
 use lib.Dec.{eqb}
 use lib.ListN.{length, getD}
@@ -15,18 +15,17 @@ use Rattle.interval.specs.Facts.{ContiguousJournalInterval}
 use Rattle.interval.specs.Journal.{JournalBlock}
 use Rattle.superblock.specs.declared.superblock.Superblock.{Superblock}
 use Rattle.superblock.specs.Laws.{WFSuperblock, facts-superblock}
-use Rattle.source.specs.Sets.{Ids, no-ids, join, leave, Map, no-keys, bind, unbind, isKey, keys, AtMost, none-few, idsOf, Two, both, at, put, none-some, at-both, at-put, at-put-other, join-here}
-use Rattle.source.specs.Codec.{JournalRange, Codec}
+use Rattle.source.specs.Sets.{Ids, no-ids, join, leave, Map, no-keys, bind, unbind, isKey, keys, AtMost, none-few, idsOf, Two, both, at, put, none-some, at-both, at-put, join-here}
+use Rattle.source.specs.Codec.{Codec}
 use Rattle.source.specs.JournalDisk as D
 use Rattle.source.specs.JournalDisk.{ReqId, ReqReadSuperblockOp, RespReadSuperblockOp}
 use Rattle.source.specs.JournalCache as M
 use Rattle.source.specs.JournalCache.{SuperblockReadResult, SuperblockSuccess, SuperblockUnfinished, SuperblockCorruption, PageInSuperblockReqStep, PageInSuperblockRespStep}
-use Rattle.source.specs.JournalSystem as Y
-use Rattle.source.specs.Limits.{Limits, limits, BlockSize, DiskLimits, Joined, MachineMeets, SystemMeets, awaitedSuperblockReads, awaitedJournalReads, awaitedSuperblockWrites, awaitedJournalWrites}
+use Rattle.source.specs.Limits.{Limits, limits, BlockSize, DiskLimits, Joined, MachineMeets, awaitedSuperblockReads, awaitedJournalReads, awaitedSuperblockWrites, awaitedJournalWrites}
 use Rattle.source.specs.Departures.{Source, MachineStep}
 use Rattle.history.specs.Ledger.{readSuperblock, superblockRead}
 use Rattle.history.specs.Slots.{Slots}
-use Rattle.history.specs.Working.{Values, values-bind}
+use Rattle.history.specs.Working.{Values}
 use Rattle.history.specs.Calls.{tied-read, tied-superblock, Takes}
 use Rattle.history.specs.Whole.{Trace}
 
@@ -144,10 +143,10 @@ pub one-answered : (which : Bool) → both none ≡ put (one which) which none
 one-answered true = refl
 one-answered false = refl
 
-abbrev oneIds : Bool → Two Ids
+abbrev pub oneIds : Bool → Two Ids
 oneIds which = put (both no-ids) which (join no-ids 1)
 
-ones-few : (n : ℕ) (which b : Bool) → 1 ≤ n → AtMost n (at (oneIds which) b)
+pub ones-few : (n : ℕ) (which b : Bool) → 1 ≤ n → AtMost n (at (oneIds which) b)
 ones-few n true true h = one-few n 1 h
 ones-few n true false h = none-few n
 ones-few n false true h = none-few n
@@ -157,11 +156,11 @@ ones-awaited : (which : Bool) (results : Two SuperblockReadResult) → oneIds wh
 ones-awaited true results = refl
 ones-awaited false results = refl
 
-ones-waiting : (which : Bool) → at (oneIds which) which 1 ≡ true
+pub ones-waiting : (which : Bool) → at (oneIds which) which 1 ≡ true
 ones-waiting true = join-here no-ids 1
 ones-waiting false = join-here no-ids 1
 
-ones-answered : (which : Bool) → both no-ids ≡ put (oneIds which) which (leave (at (oneIds which) which) 1)
+pub ones-answered : (which : Bool) → both no-ids ≡ put (oneIds which) which (leave (at (oneIds which) which) 1)
 ones-answered true = λ i. record { first = no-ids; second = sym (join-leave 1) i }
 ones-answered false = λ i. record { first = sym (join-leave 1) i; second = no-ids }
 
@@ -182,78 +181,83 @@ module _ (g : Geometry) (C : Codec) (L : Limits) (room : Room L) (slots : Two (O
         limits = record { sync-few = none-few (L .syncReqs); reads-differ = differ };
       }
 
-  -- a slot is asked for and answered whole
-  pub slot-read : (which : Bool) (results : Two SuperblockReadResult) → Read results (selected .values) → at results which ≡ SuperblockUnfinished
-      → Trace g C L (record { machine = superblocksAt (both none) results; disk = resting slots j }) (readSuperblock which 1 ∷ superblockRead which 1 true ∷ []) (true ∷ true ∷ [])
-      (record { machine = superblocksAt (both none) (put results which (SuperblockSuccess (at (selected .values) which))); disk = resting slots j })
-  slot-read which results read unread = (asked, ask, (_, answer, refl))
+  -- a slot is asked for
+  pub slot-ask : (which : Bool) (results : Two SuperblockReadResult) → Read results (selected .values) → at results which ≡ SuperblockUnfinished
+      → Takes g C L (record { machine = superblocksAt (both none) results; disk = resting slots j }) (record { machine = superblocksAt (one which) results; disk = reading (oneIds which) no-keys slots j }) (readSuperblock which 1)
+  slot-ask which results read unread =
+      record {
+        event = MachineStep (ReqReadSuperblockOp 1 which) (Source (PageInSuperblockReqStep which));
+        tied = tied-read;
+        allowed =
+            record {
+              meets =
+                  record {
+                    machine = machine-superblocks (both none) results read (λ b id e. none-some (at-both none b) e) (λ id p q. none-some refl p);
+                    disk = disk-meets g L slots j w v selected size sized (both no-ids) no-keys
+                        (λ b. subst (AtMost (L .superblockReads)) (sym (at-both no-ids b)) (none-few (L .superblockReads))) (none-few (L .journalReads)) (λ id u e. none-some refl e);
+                    joined = joined g L slots j w v selected size sized (both no-ids) no-keys (superblocksAt (both none) results) refl refl refl refl;
+                  };
+              step =
+                  record {
+                    machine =
+                        record {
+                          source = record { id = 1; op = refl; no-read = at-both none which; unfinished = unread; next = refl };
+                          other-slot = λ o. none-some (at-both none (not which)) (o .2);
+                        };
+                    disk = record { new1 = refl; new2 = refl; next = λ i. reading (put (both no-ids) which (join (sym (at-both no-ids which) i) 1)) no-keys slots j };
+                  };
+            };
+      }
+
+  -- and answered whole
+  pub slot-answer : (which : Bool) (results : Two SuperblockReadResult) → Read results (selected .values) → at results which ≡ SuperblockUnfinished
+      → Takes g C L (record { machine = superblocksAt (one which) results; disk = reading (oneIds which) no-keys slots j })
+      (record { machine = superblocksAt (both none) (put results which (SuperblockSuccess (at (selected .values) which))); disk = resting slots j }) (superblockRead which 1 true)
+  slot-answer which results read unread =
+      record {
+        event = MachineStep (RespReadSuperblockOp 1 which (some x)) (Source (PageInSuperblockRespStep which));
+        tied = tied-superblock;
+        allowed =
+            record {
+              meets =
+                  record {
+                    machine =
+                        machine-superblocks (one which) results read (λ b id e. ap (at results) (one-only which b id e) ∙ unread) (one-differs which);
+                    disk = disk-meets g L slots j w v selected size sized (oneIds which) no-keys
+                        (λ b. ones-few (L .superblockReads) which b (room .superblock-read)) (none-few (L .journalReads)) (λ id u e. none-some refl e);
+                    joined = joined g L slots j w v selected size sized (oneIds which) no-keys (superblocksAt (one which) results) (ones-awaited which results) refl refl refl;
+                  };
+              step =
+                  record {
+                    machine =
+                        record {
+                          id = 1;
+                          superblock = some x;
+                          op = refl;
+                          waiting = at-put (both none) which (some 1);
+                          next = λ i. superblocksAt (one-answered which i) (put results which (sym whole-read i));
+                        };
+                    disk =
+                        record {
+                          waiting = ones-waiting which;
+                          whole = λ y e. sym (selected .holds which);
+                          next = λ i. reading (ones-answered which i) no-keys slots j;
+                        };
+                  };
+            };
+      }
     where
       x : Superblock
       x = at (selected .values) which
 
-      asked : Y.Variables
-      asked = record { machine = superblocksAt (one which) results; disk = reading (oneIds which) no-keys slots j }
+      whole-read : M.superblockRead g (some x) ≡ SuperblockSuccess x
+      whole-read = ap (λ (b : Bool). cond b (SuperblockSuccess x) SuperblockCorruption) (facts-superblock g x (selected .wf which))
 
-      ask : Takes g C L (record { machine = superblocksAt (both none) results; disk = resting slots j }) asked (readSuperblock which 1)
-      ask =
-          record {
-            event = MachineStep (ReqReadSuperblockOp 1 which) (Source (PageInSuperblockReqStep which));
-            tied = tied-read;
-            allowed =
-                record {
-                  meets =
-                      record {
-                        machine = machine-superblocks (both none) results read (λ b id e. none-some (at-both none b) e) (λ id p q. none-some refl p);
-                        disk = disk-meets g L slots j w v selected size sized (both no-ids) no-keys
-                            (λ b. subst (AtMost (L .superblockReads)) (sym (at-both no-ids b)) (none-few (L .superblockReads))) (none-few (L .journalReads)) (λ id u e. none-some refl e);
-                        joined = joined g L slots j w v selected size sized (both no-ids) no-keys (superblocksAt (both none) results) refl refl refl refl;
-                      };
-                  step =
-                      record {
-                        machine =
-                            record {
-                              source = record { id = 1; op = refl; no-read = at-both none which; unfinished = unread; next = refl };
-                              other-slot = λ o. none-some (at-both none (not which)) (o .2);
-                            };
-                        disk = record { new1 = refl; new2 = refl; next = λ i. reading (put (both no-ids) which (join (sym (at-both no-ids which) i) 1)) no-keys slots j };
-                      };
-                };
-          }
-
-      answer : Takes g C L asked (record { machine = superblocksAt (both none) (put results which (SuperblockSuccess x)); disk = resting slots j }) (superblockRead which 1 true)
-      answer =
-          record {
-            event = MachineStep (RespReadSuperblockOp 1 which (some x)) (Source (PageInSuperblockRespStep which));
-            tied = tied-superblock;
-            allowed =
-                record {
-                  meets =
-                      record {
-                        machine =
-                            machine-superblocks (one which) results read (λ b id e. ap (at results) (one-only which b id e) ∙ unread) (one-differs which);
-                        disk = disk-meets g L slots j w v selected size sized (oneIds which) no-keys
-                            (λ b. ones-few (L .superblockReads) which b (room .superblock-read)) (none-few (L .journalReads)) (λ id u e. none-some refl e);
-                        joined = joined g L slots j w v selected size sized (oneIds which) no-keys (superblocksAt (one which) results) (ones-awaited which results) refl refl refl;
-                      };
-                  step =
-                      record {
-                        machine =
-                            record {
-                              id = 1;
-                              superblock = some x;
-                              op = refl;
-                              waiting = at-put (both none) which (some 1);
-                              next = λ i. superblocksAt (one-answered which i) (put results which (sym whole-read i));
-                            };
-                        disk =
-                            record {
-                              waiting = ones-waiting which;
-                              whole = λ y e. sym (selected .holds which);
-                              next = λ i. reading (ones-answered which i) no-keys slots j;
-                            };
-                      };
-                };
-          }
-        where
-          whole-read : M.superblockRead g (some x) ≡ SuperblockSuccess x
-          whole-read = ap (λ (b : Bool). cond b (SuperblockSuccess x) SuperblockCorruption) (facts-superblock g x (selected .wf which))
+  pub slot-read : (which : Bool) (results : Two SuperblockReadResult) → Read results (selected .values) → at results which ≡ SuperblockUnfinished
+      → Trace g C L (record { machine = superblocksAt (both none) results; disk = resting slots j }) (readSuperblock which 1 ∷ superblockRead which 1 true ∷ []) (true ∷ true ∷ [])
+      (record { machine = superblocksAt (both none) (put results which (SuperblockSuccess (at (selected .values) which))); disk = resting slots j })
+  slot-read which results read unread = (
+    record { machine = superblocksAt (one which) results; disk = reading (oneIds which) no-keys slots j },
+    slot-ask which results read unread,
+    (record { machine = superblocksAt (both none) (put results which (SuperblockSuccess (at (selected .values) which))); disk = resting slots j }, slot-answer which results read unread, refl),
+  )

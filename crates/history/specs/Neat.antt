@@ -1,21 +1,14 @@
 -- What question 2 asks of a store beside 000's `Inv` and the limits: reads stand at the disk as the machine awaits them, and journal writes
 -- in flight lie apart, behind what is kept. Together with the relation and `Inv` it is question 2; the steps keep it (Kept).
-use Prim.Native.Nat.{ℕ, _+_, _-_, _≤_, _<_, max}
+use Prim.Native.Nat.{ℕ, _+_, _<_, max}
 use mathlib.Core.Bool.{Bool, true, false, not}
-use mathlib.Core.Path.{_≡_, refl, sym, _∙_, ap, subst}
-use mathlib.Core.List.{List, [], _∷_, _++_}
+use mathlib.Core.Path.{_≡_, refl, sym, _∙_, ap}
 use mathlib.Core.Option.{Option, none, some}
 use mathlib.Core.Logic.{inl}
 use native.Mathlib.Omega.{arith}
-use lib.Dec.{ltb}
-use borrow.Author.Tests.{le-ltb, ltb-true, lt-ltb}
-use lib.ListN.{length}
-use Rattle.laws.specs.Choice.{also, also-left, also-right, not-so, by-ltb, split-le, false-also, also-false}
-use Rattle.laws.specs.Ring.{off, by-wrap}
+use Rattle.laws.specs.Choice.{not-so, by-ltb}
+use Rattle.laws.specs.Ring.{off}
 use Rattle.layout.specs.declared.geometry.Geometry.{Geometry}
-use Rattle.layout.specs.declared.location.Location.{Location}
-use Rattle.layout.specs.Journal.{JournalPosAdd}
-use Rattle.layout.specs.Laws.{pos-add-wrap}
 use Rattle.interval.specs.declared.interval.JournalInterval.{JournalInterval}
 use Rattle.interval.specs.Interval.{interval}
 use Rattle.interval.specs.Facts.{ValidJournalInterval, ContiguousJournalInterval, InCyclicRange}
@@ -24,18 +17,16 @@ use Rattle.interval.specs.Update.{Shares}
 use Rattle.interval.specs.Meets.{meets-facts, overlap-shares}
 use Rattle.superblock.specs.declared.superblock.Superblock.{Superblock}
 use Rattle.superblock.specs.Superblock.{SelectSuperblock}
-use Rattle.superblock.specs.Laws.{WFSuperblock}
-use Rattle.source.specs.Sets.{Map, no-keys, keys, Two, both, at, put, none-some}
-use Rattle.source.specs.Codec.{JournalRange, Codec}
+use Rattle.source.specs.Sets.{keys, both, at, put}
+use Rattle.source.specs.Codec.{Codec}
 use Rattle.source.specs.JournalDisk as D
 use Rattle.source.specs.JournalDisk.{ReqId, ReqWriteSuperblockId}
 use Rattle.source.specs.JournalCache as M
-use Rattle.source.specs.JournalSystem as Y
-use Rattle.source.specs.Limits.{Limits, MachineLimits, DiskLimits, Joined, SystemMeets, awaitedSuperblockReads, awaitedJournalReads, awaitedSuperblockWrites, awaitedJournalWrites, newWrite}
+use Rattle.source.specs.Limits.{Limits, MachineLimits, DiskLimits, SystemMeets, awaitedSuperblockReads, awaitedJournalReads, awaitedSuperblockWrites, awaitedJournalWrites, newWrite}
 use Rattle.history.specs.Ledger.{blocks, Kept, Ledger}
-use Rattle.history.specs.Holds.{Apart, pos-add-in}
-use Rattle.history.specs.Slots.{Slots, picked-is, slots-wf}
-use Rattle.history.specs.Relation.{superOf, keptInterval, Phase, quiet, waits, done, Flight, flightOf, idle, busy, toSlot, Runs, Sim}
+use Rattle.history.specs.Holds.{Apart}
+use Rattle.history.specs.Slots.{Slots, picked-is}
+use Rattle.history.specs.Relation.{superOf, keptInterval, Phase, quiet, waits, done, Flight, flightOf, idle, busy, Sim}
 
 -- intervals without a common block do not overlap, where one is contiguous and not empty and the other is not empty either
 pub apart-clear : (g : Geometry) (a b : JournalInterval) → ValidJournalInterval g a → ValidJournalInterval g b → 0 < a .len → 0 < b .len → Apart g a b

@@ -1,17 +1,16 @@
 -- Reads stand at the disk as the machine awaits them: through a request and its answer, of a slot and of a piece; and an answer to a read
 -- that is there is always awaited.
-use Prim.Native.Nat.{ℕ}
 use mathlib.Core.Bool.{Bool, true, false, cond, not}
-use mathlib.Core.Path.{_≡_, refl, sym, _∙_, ap, subst}
+use mathlib.Core.Path.{_≡_, refl, sym, _∙_, ap}
 use mathlib.Core.Option.{Option, none, some}
 use mathlib.Core.Logic.{_⊎_, inl, inr, ⊎-elim}
 use lib.Dec.{eqb}
 use borrow.Author.Tests.{eqb-true, ne-eqb}
-use Rattle.laws.specs.Choice.{ruin, false-true, split-eq}
+use Rattle.laws.specs.Choice.{false-true, split-eq}
 use Rattle.layout.specs.declared.geometry.Geometry.{Geometry}
 use Rattle.interval.specs.declared.interval.JournalInterval.{JournalInterval}
 use Rattle.superblock.specs.declared.superblock.Superblock.{Superblock}
-use Rattle.source.specs.Sets.{Ids, no-ids, join, leave, Map, no-keys, bind, unbind, Two, both, at, put, none-some, same-value, at-both, bind-here, bind-there, unbind-here, unbind-there}
+use Rattle.source.specs.Sets.{Ids, no-ids, join, leave, Map, no-keys, bind, unbind, Two, at, put, none-some, at-both, bind-there, unbind-here, unbind-there}
 use Rattle.source.specs.Codec.{JournalRange}
 use Rattle.source.specs.JournalDisk.{ReqId, RespReadSuperblockOp, RespReadJournalOp}
 use Rattle.source.specs.JournalCache as M

@@ -1,39 +1,29 @@
 -- Each step but the journal write keeps a store neat.
-use Prim.Native.Nat.{ℕ, _+_, _-_, _≤_, _<_}
+use Prim.Native.Nat.{ℕ}
 use mathlib.Core.Bool.{Bool, true, false, not}
 use mathlib.Core.Path.{_≡_, refl, sym, _∙_, ap, subst, subst₂}
-use mathlib.Core.List.{List, [], _∷_, _++_}
-use mathlib.Core.Option.{Option, none, some}
-use mathlib.Core.Logic.{_⊎_, inl, inr}
-use native.Mathlib.Omega.{arith}
-use lib.ListN.{length}
-use Rattle.laws.specs.Choice.{ruin, split-le}
+use mathlib.Core.List.{List}
+use mathlib.Core.Option.{none, some}
 use Rattle.layout.specs.declared.geometry.Geometry.{Geometry}
 use Rattle.layout.specs.declared.location.Location.{Location}
-use Rattle.layout.specs.Journal.{JournalPosAdd}
 use Rattle.interval.specs.declared.interval.JournalInterval.{JournalInterval}
-use Rattle.superblock.specs.declared.superblock.Superblock.{Superblock}
-use Rattle.superblock.specs.Laws.{WFSuperblock}
-use Rattle.source.specs.Sets.{Ids, no-ids, leave, Map, no-keys, bind, unbind, Two, both, at, put, none-some, at-both}
+use Rattle.source.specs.Sets.{Ids, no-ids, leave, Map, no-keys, bind, unbind, both, at, put, none-some}
 use Rattle.source.specs.Codec.{JournalEntry, JournalRange, Codec}
 use Rattle.source.specs.JournalDisk as D
-use Rattle.source.specs.JournalDisk.{ReqId, ReqWriteJournal, DiskOp, RespReadSuperblockOp, RespReadJournalOp, written}
+use Rattle.source.specs.JournalDisk.{ReqId, DiskOp}
 use Rattle.source.specs.JournalCache as M
-use Rattle.source.specs.JournalCache.{SuperblockUnfinished, journalIntervalOfSuperblock}
-use Rattle.source.specs.JournalSystem as Y
-use Rattle.source.specs.Limits.{Limits, SystemMeets, MachineLimits, DiskLimits, awaitedSuperblockReads, awaitedJournalReads, oneId, bindRead}
-use Rattle.source.specs.Departures.{WriteBackJournalReq⁺, FinishLoadingOtherPhase⁺, NoOp⁺, Awaited, DamagedJournal, AskAgain, Event, Allowed}
-use Rattle.source.specs.Preserved.{inv-kept⁺}
-use Rattle.history.specs.Ledger.{Call, blocks, Kept, Ledger, tell}
-use Rattle.history.specs.Slots.{slots-wf}
-use Rattle.history.specs.Relation.{superOf, keptInterval, Standing, Flight, flightOf, Phase, quiet, waits, done, ReadsStand, Sim}
-use Rattle.history.specs.Working.{Values, values-unbind, no-keys-some, on-quiet, on-writing}
+use Rattle.source.specs.JournalCache.{journalIntervalOfSuperblock}
+use Rattle.source.specs.Limits.{Limits, SystemMeets, awaitedJournalReads, oneId, bindRead}
+use Rattle.source.specs.Departures.{FinishLoadingOtherPhase⁺, NoOp⁺, Awaited, DamagedJournal, AskAgain}
+use Rattle.history.specs.Ledger.{Kept, Ledger}
+use Rattle.history.specs.Relation.{keptInterval, Flight, flightOf, Phase, quiet, waits, done, Sim}
+use Rattle.history.specs.Working.{values-unbind, no-keys-some}
 use Rattle.history.specs.Commits.{none-there}
 use Rattle.history.specs.Steps.{reads-stand}
 use Rattle.history.specs.LoadsSuperblocks.{none-if}
 use Rattle.history.specs.Neat.{writtenLen, Piece, Neat}
 use Rattle.history.specs.NeatReads.{page-asked, page-answered, slot-asked, slot-answered, slot-waits, page-waits}
-use Rattle.history.specs.NeatWrites.{Lone, lone-unbind, straight-pieces, straight-lone, wrapped-pieces, wrapped-lone}
+use Rattle.history.specs.NeatWrites.{lone-unbind}
 
 module _ (g : Geometry) (C : Codec) where
   pub by-neat : (m m′ : M.Variables) (d d′ : D.Variables) (k : Kept) → m′ ≡ m → d′ ≡ d → Neat g C m d k → Neat g C m′ d′ k

@@ -1,15 +1,13 @@
 -- A journal write keeps the writes in flight neat: its pieces lie behind all that was written, so they overlap none of the others nor what is
 -- kept, an empty kept interval included.
 use Prim.Native.Nat.{ℕ, _+_, _-_, _≤_, _<_}
-use mathlib.Core.Bool.{Bool, true, false, cond}
-use mathlib.Core.Path.{_≡_, refl, sym, _∙_, ap, subst}
-use mathlib.Core.Option.{Option, none, some, Option·some-injective}
-use mathlib.Core.Logic.{_⊎_, inl, inr, ⊎-elim}
+use mathlib.Core.Bool.{true}
+use mathlib.Core.Path.{_≡_, sym, _∙_, ap, subst}
+use mathlib.Core.Option.{some}
+use mathlib.Core.Logic.{inl, inr, ⊎-elim}
 use native.Mathlib.Omega.{arith}
-use lib.Dec.{eqb}
-use lib.ListN.{length}
 use Rattle.laws.specs.Choice.{split-le, split-eq}
-use Rattle.laws.specs.Ring.{wrap, off, by-wrap}
+use Rattle.laws.specs.Ring.{by-wrap}
 use Rattle.layout.specs.declared.geometry.Geometry.{Geometry}
 use Rattle.layout.specs.Journal.{JournalPosAdd}
 use Rattle.layout.specs.Laws.{pos-add-wrap}
@@ -17,11 +15,10 @@ use Rattle.interval.specs.declared.interval.JournalInterval.{JournalInterval}
 use Rattle.interval.specs.Interval.{interval}
 use Rattle.interval.specs.Facts.{ValidJournalInterval, ContiguousJournalInterval, InCyclicRange}
 use Rattle.interval.specs.Overlap.{journalIntervalOverlap, journalCyclicIntervalOverlap}
-use Rattle.interval.specs.Update.{Shares}
 use Rattle.interval.specs.Meets.{meets-facts, plain-symmetric}
 use Rattle.source.specs.Sets.{Map, bind, unbind, none-some, same-value, bind-here, bind-there, unbind-here, unbind-there}
-use Rattle.source.specs.JournalDisk.{ReqId, ReqWriteJournal, written, written1, written2}
-use Rattle.history.specs.Holds.{Apart, pos-add-in, behind-off, behind-apart}
+use Rattle.source.specs.JournalDisk.{ReqId}
+use Rattle.history.specs.Holds.{pos-add-in, behind-off, behind-apart}
 use Rattle.history.specs.Working.{Values, values-bind}
 use Rattle.history.specs.Neat.{apart-clear, empty-clear, plain-shares, Piece}
 

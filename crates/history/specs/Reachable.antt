@@ -1,10 +1,9 @@
 -- Question 2 never turns away a store that came from `Init` by accepted steps within the limits: an accepted step leads to a state that meets
 -- it again, where that state's counts and sizes are within the limits.
-use Prim.Native.Nat.{ℕ, _+_, _-_, _≤_, _<_}
-use mathlib.Core.Bool.{Bool, true, false, not}
+use Prim.Native.Nat.{ℕ, _+_, _≤_, _<_}
+use mathlib.Core.Bool.{Bool, true, false}
 use mathlib.Core.Path.{_≡_, refl, sym, _∙_, ap, subst}
-use mathlib.Core.List.{List, [], _∷_, _++_}
-use mathlib.Core.Option.{Option, none, some}
+use mathlib.Core.List.{List, [], _∷_}
 use mathlib.Core.Logic.{inl}
 use native.Mathlib.Omega.{arith}
 use lib.ListN.{length}
@@ -14,25 +13,24 @@ use Rattle.layout.specs.declared.location.Location.{Location}
 use Rattle.layout.specs.Journal.{JournalPosAdd}
 use Rattle.interval.specs.declared.interval.JournalInterval.{JournalInterval}
 use Rattle.superblock.specs.declared.superblock.Superblock.{Superblock}
-use Rattle.superblock.specs.Laws.{WFSuperblock}
-use Rattle.source.specs.Sets.{Map, no-keys, bind, Two, both, at, none-some, at-both}
+use Rattle.source.specs.Sets.{Map, no-keys, bind, both, at-both}
 use Rattle.source.specs.Codec.{JournalRange, Codec}
 use Rattle.source.specs.JournalDisk as D
-use Rattle.source.specs.JournalDisk.{ReqId, ReqWriteJournal, DiskOp, written, written1, written2}
+use Rattle.source.specs.JournalDisk.{ReqWriteJournal, DiskOp, written, written1, written2}
 use Rattle.source.specs.JournalCache as M
-use Rattle.source.specs.JournalCache.{SuperblockUnfinished, SuperblockSuccess, SuperblockCorruption}
+use Rattle.source.specs.JournalCache.{SuperblockUnfinished}
 use Rattle.source.specs.JournalSystem as Y
 use Rattle.source.specs.JournalSystem.{SuperblockOfDisk}
 use Rattle.source.specs.Limits.{Limits, SystemMeets, MachineLimits, DiskLimits, init-meets}
 use Rattle.source.specs.Departures.{WriteBackJournalReq⁺, Event, MachineStep, DiskInternalStep, CrashStep, Allowed}
 use Rattle.source.specs.Preserved.{inv-kept⁺}
-use Rattle.history.specs.Ledger.{Call, blocks, Kept, Ledger, begin, tell, heard, books}
+use Rattle.history.specs.Ledger.{Call, blocks, Kept, Ledger, begin, tell, books}
 use Rattle.history.specs.Slots.{slots-wf}
 use Rattle.history.specs.Relation.{superOf, keptInterval, Standing, Sim}
 use Rattle.history.specs.Working.{Values, no-keys-some, on-quiet}
 use Rattle.history.specs.Calls.{Tied, tied-write, tied-written, unawaited-written, tied-log, tied-location, tied-committed, unawaited-committed, tied-page, tied-paged, tied-damaged, unawaited-paged, unawaited-damaged, tied-read, tied-superblock, tied-corrupt, unawaited-superblock, unawaited-corrupt, tied-finish-superblocks, tied-finish-other, tied-freeze, tied-receive, tied-add, tied-replay, tied-push, tied-pop, tied-no-op, tied-again, tied-land, tied-crash, Takes}
 use Rattle.history.specs.Steps.{sim-step}
-use Rattle.history.specs.Whole.{Goes, Trace, firstParity, init-sim}
+use Rattle.history.specs.Whole.{Trace, firstParity, init-sim}
 use Rattle.history.specs.LoadsSuperblocks.{Sized}
 use Rattle.history.specs.Neat.{Piece, Neat, neat-meets}
 use Rattle.history.specs.NeatWrites.{Lone, straight-pieces, straight-lone, wrapped-pieces, wrapped-lone}

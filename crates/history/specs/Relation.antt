@@ -1,9 +1,9 @@
 -- What machine and disk have to do with the ledger. Small pieces over the fields that they read, so that a step that leaves the fields
 -- leaves the piece. `w` is the slot that the disk selects: a landing changes it, and the machine follows with the answer.
-use Prim.Native.Nat.{ℕ, _+_, _≤_, _<_}
-use mathlib.Core.Bool.{Bool, true, false, not}
+use Prim.Native.Nat.{ℕ, _+_, _≤_}
+use mathlib.Core.Bool.{Bool, not}
 use mathlib.Core.Path.{_≡_}
-use mathlib.Core.List.{List, [], _∷_, _++_}
+use mathlib.Core.List.{List, [], _++_}
 use mathlib.Core.Option.{Option, none, some}
 use lib.ListN.{length}
 use Rattle.laws.specs.Fold.{Each}

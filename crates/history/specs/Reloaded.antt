@@ -1,11 +1,10 @@
 -- A machine that is loaded after a crash, by reads answered whole and the two finishing steps: at Ready it is the machine that the ledger
 -- tells, in every field but the slot, and the slot goes with the counter.
-use Prim.Native.Nat.{ℕ, _+_, _-_, _≤_, _<_}
+use Prim.Native.Nat.{ℕ, _-_, _≤_, _<_}
 use mathlib.Core.Bool.{Bool, true, false}
-use mathlib.Core.Path.{_≡_, refl, sym, _∙_, ap, subst, subst₂}
-use mathlib.Core.List.{List, [], _∷_, _++_, append-nil, map-append}
+use mathlib.Core.Path.{_≡_, refl, sym, _∙_, ap, subst}
+use mathlib.Core.List.{List, [], _++_, append-nil, map-append}
 use mathlib.Core.Option.{Option, none, some, Option·getD}
-use native.Mathlib.Omega.{arith}
 use lib.ListN.{length}
 use Rattle.laws.specs.Choice.{false-true}
 use Rattle.laws.specs.Cut.{flat}
@@ -23,7 +22,7 @@ use Rattle.source.specs.JournalCache as M
 use Rattle.source.specs.JournalCache.{CommitNone, loadedRange, loaded}
 use Rattle.source.specs.JournalSystem as Y
 use Rattle.source.specs.Limits.{Limits}
-use Rattle.source.specs.Departures.{FinishLoadingOtherPhase⁺, NoOp⁺, Event, Allowed}
+use Rattle.source.specs.Departures.{FinishLoadingOtherPhase⁺, Event, Allowed}
 use Rattle.history.specs.Ledger.{Call, writeJournal, journalWritten, commitLog, commitLocation, superblockWritten, readJournal, journalRead, readSuperblock, superblockRead, finishSuperblocks, finishOther, freeze, receive, add, replay, pushSync, popSync, noOp, askAgain, land, crash, blocks, Ledger, tell, Shown, shown}
 use Rattle.history.specs.Codes.{codes, whole, whole-same, length-codes, parse-codes}
 use Rattle.history.specs.Slots.{parity}

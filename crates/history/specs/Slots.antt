@@ -1,17 +1,17 @@
 -- The two slots: a superblock whose counter follows the selected one's is selected once it stands in the other slot, and not before; and
 -- the counter tells the slot, since each commit changes the parity of both.
-use Prim.Native.Nat.{ℕ, _+_, _%_, _≤_, _<_}
+use Prim.Native.Nat.{ℕ, _+_, _%_}
 use mathlib.Core.Bool.{Bool, true, false, cond, not}
 use mathlib.Core.Path.{_≡_, refl, sym, _∙_, ap, subst}
-use mathlib.Core.Option.{Option, none, some, Option·some-injective}
+use mathlib.Core.Option.{Option, some, Option·some-injective}
 use native.Mathlib.Omega.{arith}
 use lib.Dec.{eqb}
 use Rattle.laws.specs.Choice.{by-eqb, true-false, false-true}
 use Rattle.layout.specs.declared.geometry.Geometry.{Geometry}
 use Rattle.superblock.specs.declared.superblock.Superblock.{Superblock}
-use Rattle.superblock.specs.Superblock.{IncrementSuperblockCounter, SelectSuperblockIndex, SelectSuperblock}
+use Rattle.superblock.specs.Superblock.{IncrementSuperblockCounter, SelectSuperblock}
 use Rattle.superblock.specs.Laws.{WFSuperblock, selects-second, selects-first}
-use Rattle.source.specs.Sets.{Two, at, put, at-put, at-put-other}
+use Rattle.source.specs.Sets.{Two, at, put, at-put}
 use Rattle.source.specs.JournalCache.{selectedSecond}
 
 abbrev pub bit : Bool → ℕ

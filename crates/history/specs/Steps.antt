@@ -1,23 +1,19 @@
 -- An allowed step keeps the relation: each call's step by its own lemma. Question 2 is used once, for the read that a journal answer answers.
 use Prim.Native.Nat.{ℕ}
 use mathlib.Core.Bool.{Bool, true, false}
-use mathlib.Core.Path.{_≡_, refl, sym, _∙_, ap, subst}
-use mathlib.Core.List.{List}
+use mathlib.Core.Path.{_≡_, refl, _∙_, ap}
 use mathlib.Core.Option.{Option, none, some}
 use Rattle.layout.specs.declared.geometry.Geometry.{Geometry}
-use Rattle.layout.specs.declared.location.Location.{Location}
 use Rattle.interval.specs.declared.interval.JournalInterval.{JournalInterval}
-use Rattle.interval.specs.Journal.{JournalBlock}
-use Rattle.superblock.specs.declared.superblock.Superblock.{Superblock}
-use Rattle.source.specs.Sets.{Map, bind, Two, at, none-some, same-value, bind-here, bind-there}
-use Rattle.source.specs.Codec.{JournalEntry, JournalRange, Codec}
+use Rattle.source.specs.Sets.{Map, bind, at, none-some, same-value, bind-here, bind-there}
+use Rattle.source.specs.Codec.{Codec}
 use Rattle.source.specs.JournalDisk as D
-use Rattle.source.specs.JournalDisk.{ReqId, ReqWriteSuperblock, ReqWriteJournal, DiskOp, ReqReadSuperblockOp, ReqReadJournalOp, ReqWriteSuperblockOp, ReqWriteJournalOp, RespReadSuperblockOp, RespReadJournalOp, RespWriteSuperblockOp, RespWriteJournalOp, NoDiskOp, ProcessWriteSuperblockStep}
+use Rattle.source.specs.JournalDisk.{ReqId}
 use Rattle.source.specs.JournalCache as M
-use Rattle.source.specs.JournalCache.{WriteBackJournalReqStep, WriteBackJournalRespStep, WriteBackSuperblockReq-AdvanceLog-Step, WriteBackSuperblockReq-AdvanceLocation-Step, WriteBackSuperblockRespStep, PageInJournalReqStep, PageInJournalRespStep, PageInSuperblockReqStep, PageInSuperblockRespStep, FinishLoadingSuperblockPhaseStep, FinishLoadingOtherPhaseStep, FreezeStep, ReceiveFrozenLocStep, AdvanceStep, ReplayStep, PushSyncReqStep, PopSyncReqStep, NoOpStep, journalIntervalOfSuperblock}
+use Rattle.source.specs.JournalCache.{journalIntervalOfSuperblock}
 use Rattle.source.specs.JournalSystem as Y
-use Rattle.source.specs.Limits.{Limits, SystemMeets, bindRead, awaitedJournalReads}
-use Rattle.source.specs.Departures.{Source, DamagedJournalStep, AskAgainStep, Event, MachineStep, DiskInternalStep, CrashStep, Allowed}
+use Rattle.source.specs.Limits.{Limits, SystemMeets, bindRead}
+use Rattle.source.specs.Departures.{Event, Allowed}
 use Rattle.history.specs.Ledger.{Call, Ledger, tell}
 use Rattle.history.specs.Calls.{Tied, tied-write, tied-written, unawaited-written, tied-log, tied-location, tied-committed, unawaited-committed, tied-page, tied-paged, tied-damaged, unawaited-paged, unawaited-damaged, tied-read, tied-superblock, tied-corrupt, unawaited-superblock, unawaited-corrupt, tied-finish-superblocks, tied-finish-other, tied-freeze, tied-receive, tied-add, tied-replay, tied-push, tied-pop, tied-no-op, tied-again, tied-land, tied-crash, Takes}
 use Rattle.history.specs.Relation.{ReadsStand, Sim}

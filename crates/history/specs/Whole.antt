@@ -1,22 +1,18 @@
 -- Whole histories: lists of calls with their answers, from one disk that meets `Init`, each with a crash that is taken and a load behind it.
 -- The machines at Ready are equal exactly when the ledgers are, and each shows its own ledger. Over any range format that meets its laws.
-use Prim.Native.Nat.{ℕ, _+_, _≤_, _<_}
+use Prim.Native.Nat.{ℕ}
 use mathlib.Core.Bool.{Bool, true, false}
 use mathlib.Core.Path.{_≡_, refl, sym, _∙_, ap, subst}
 use mathlib.Core.List.{List, [], _∷_, _++_}
-use mathlib.Core.Option.{Option, none, some}
+use mathlib.Core.Option.{some}
 use mathlib.Core.Logic.{_↔_}
-use native.Mathlib.Omega.{arith}
-use lib.ListN.{length}
 use Rattle.laws.specs.Choice.{ruin}
 use Rattle.layout.specs.declared.geometry.Geometry.{Geometry}
 use Rattle.layout.specs.declared.location.Location.{Location}
 use Rattle.superblock.specs.declared.superblock.Superblock.{Superblock}
-use Rattle.superblock.specs.Superblock.{SelectSuperblock}
 use Rattle.superblock.specs.Laws.{WFSuperblock}
-use Rattle.source.specs.Sets.{no-keys, Two, both, at}
+use Rattle.source.specs.Sets.{Two, both, at}
 use Rattle.source.specs.Codec.{Codec}
-use Rattle.source.specs.JournalDisk as D
 use Rattle.source.specs.JournalCache as M
 use Rattle.source.specs.JournalCache.{SuperblockUnfinished, SuperblockSuccess}
 use Rattle.source.specs.JournalSystem as Y
@@ -26,8 +22,8 @@ use Rattle.source.specs.Departures.{Event, Allowed}
 use Rattle.history.specs.Ledger.{Call, crash, Ledger, begin, heard, books, tell, Shown, shown}
 use Rattle.history.specs.Codes.{codes-none, blocks-none}
 use Rattle.history.specs.Holds.{Holds, holds-none}
-use Rattle.history.specs.Slots.{parity, parity-slot, picked, picked-is, Slots}
-use Rattle.history.specs.Relation.{superOf, Sim}
+use Rattle.history.specs.Slots.{parity, parity-slot, picked, picked-is}
+use Rattle.history.specs.Relation.{Sim}
 use Rattle.history.specs.Working.{no-keys-some}
 use Rattle.history.specs.Calls.{Tied, tied-crash, Takes}
 use Rattle.history.specs.Steps.{sim-step}

@@ -1,15 +1,15 @@
 -- The relation through the steps of a machine at Ready, but for its commits: add, freeze, a received location, a journal write and its
 -- answer.
-use Prim.Native.Nat.{ℕ, _+_, _-_, _≤_, _<_}
-use mathlib.Core.Bool.{Bool, true, false, cond, not}
-use mathlib.Core.Path.{_≡_, refl, sym, _∙_, ap, subst, subst₂}
+use Prim.Native.Nat.{ℕ, _+_, _≤_, _<_}
+use mathlib.Core.Bool.{Bool, true, false, cond}
+use mathlib.Core.Path.{_≡_, refl, sym, _∙_, ap, subst}
 use mathlib.Core.List.{List, [], _∷_, _++_, append-nil, append-assoc}
 use mathlib.Core.Option.{Option, none, some, Option·some-injective}
-use mathlib.Core.Logic.{_⊎_, inl, inr, ⊎-elim}
+use mathlib.Core.Logic.{_⊎_, inl, ⊎-elim}
 use native.Mathlib.Omega.{arith}
 use lib.Dec.{eqb}
 use lib.ListN.{length}
-use Rattle.laws.specs.Choice.{ruin, split-le, by-eqb, split-eq}
+use Rattle.laws.specs.Choice.{ruin, split-le}
 use Rattle.laws.specs.Fold.{Each, each-append}
 use Rattle.layout.specs.declared.geometry.Geometry.{Geometry}
 use Rattle.layout.specs.declared.location.Location.{Location}
@@ -20,19 +20,19 @@ use Rattle.interval.specs.Interval.{interval}
 use Rattle.interval.specs.Journal.{JournalBlock, JournalUpdate}
 use Rattle.superblock.specs.declared.superblock.Superblock.{Superblock}
 use Rattle.superblock.specs.Laws.{WFSuperblock}
-use Rattle.source.specs.Sets.{Ids, join, leave, Map, no-keys, bind, unbind, isKey, keys, Two, none-some, bind-here, bind-there, unbind-here, unbind-there}
+use Rattle.source.specs.Sets.{Ids, join, leave, Map, no-keys, bind, unbind, isKey, keys, Two, none-some}
 use Rattle.source.specs.Codec.{JournalEntry, JournalRange, Codec}
 use Rattle.source.specs.JournalDisk as D
-use Rattle.source.specs.JournalDisk.{ReqId, ReqWriteSuperblockId, ReqWriteJournal, DiskOp, written, written1, written2}
+use Rattle.source.specs.JournalDisk.{ReqId, ReqWriteSuperblockId, ReqWriteJournal, written, written1, written2}
 use Rattle.source.specs.JournalCache as M
 use Rattle.source.specs.JournalCache.{CommitNone, ifNone, toWrite, joinIds}
 use Rattle.source.specs.Departures.{WriteBackJournalReq⁺}
-use Rattle.history.specs.Ledger.{Range, blocks, Kept, Draft, Commit, log, location, Request, Ledger, onDraft, added, frozen, receivedAt, writtenOf}
+use Rattle.history.specs.Ledger.{Range, blocks, Kept, Commit, log, location, Request, Ledger, onDraft, added, frozen, receivedAt, writtenOf}
 use Rattle.history.specs.Ledger as Ledger
-use Rattle.history.specs.Codes.{Good, codes, whole, codes-one, codes-append, length-codes, blocks-one, blocks-append}
+use Rattle.history.specs.Codes.{Good, codes, codes-one, codes-append, length-codes, blocks-one, blocks-append}
 use Rattle.history.specs.Holds.{Holds, Apart, behind-apart, wrapped-in, holds-append, holds-written, holds-elsewhere}
-use Rattle.history.specs.Slots.{Slots, slots-wf}
-use Rattle.history.specs.Relation.{superOf, keptInterval, OnDisk, Standing, Flight, idle, busy, Quiet, Asked, Done, Phase, quiet, waits, done, Live, flightOf, Runs, Sim}
+use Rattle.history.specs.Slots.{slots-wf}
+use Rattle.history.specs.Relation.{superOf, keptInterval, OnDisk, Standing, Flight, busy, Quiet, Phase, quiet, waits, done, Live, flightOf, Sim}
 use Rattle.history.specs.Loading.{by-next, Keeps}
 
 -- a set's or a map's ids, and what holds of every value, with one more and with one less

@@ -9,4 +9,5 @@ pub mod Departures
 pub mod Unique
 pub mod Answers
 pub mod Open
+pub mod PreservedReady
 pub mod Preserved
