@@ -14,6 +14,7 @@ pub mod Reloaded
 pub mod Whole
 pub mod Format
 pub mod Demand
+pub mod Code
 pub mod LoadsSuperblocks
 pub mod LoadsJournal
 pub mod Loads

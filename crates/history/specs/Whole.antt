@@ -4,14 +4,15 @@ use Prim.Native.Nat.{ℕ}
 use mathlib.Core.Bool.{Bool, true, false}
 use mathlib.Core.Path.{_≡_, refl, sym, _∙_, ap, subst}
 use mathlib.Core.List.{List, [], _∷_, _++_}
-use mathlib.Core.Option.{some}
+use mathlib.Core.Option.{Option, some}
 use mathlib.Core.Logic.{_↔_}
 use Rattle.laws.specs.Choice.{ruin}
 use Rattle.layout.specs.declared.geometry.Geometry.{Geometry}
 use Rattle.layout.specs.declared.location.Location.{Location}
 use Rattle.superblock.specs.declared.superblock.Superblock.{Superblock}
+use Rattle.superblock.specs.Superblock.{SelectSuperblock}
 use Rattle.superblock.specs.Laws.{WFSuperblock}
-use Rattle.source.specs.Sets.{Two, both, at}
+use Rattle.source.specs.Sets.{Two, both, at, same-value}
 use Rattle.source.specs.Codec.{Codec}
 use Rattle.source.specs.JournalCache as M
 use Rattle.source.specs.JournalCache.{SuperblockUnfinished, SuperblockSuccess}
@@ -62,6 +63,19 @@ pub record Loaded (g : Geometry) (C : Codec) (L : Limits) (first : Y.Variables) 
 abbrev pub ledgerOf : (g : Geometry) (C : Codec) (first : Y.Variables) (loc : Location) → Y.Init g first loc → List Call → List Bool → List Call → List Bool → Ledger
 ledgerOf g C first loc i calls answers loading loaded =
     books g C (begin (SuperblockOfDisk g (first .disk) (i .wf))) (calls ++ crash ∷ loading) (answers ++ true ∷ loaded)
+
+-- of the first disk its two slots alone count: neither the machine, nor what proves that they are well formed
+pub ledger-alone : (g : Geometry) (C : Codec) (first first′ : Y.Variables) (loc loc′ : Location) (i : Y.Init g first loc) (i′ : Y.Init g first′ loc′) → first .disk .superblocks ≡ first′ .disk .superblocks
+    → (calls : List Call) (answers : List Bool) (loading : List Call) (loaded : List Bool)
+    → ledgerOf g C first loc i calls answers loading loaded ≡ ledgerOf g C first′ loc′ i′ calls answers loading loaded
+ledger-alone g C first first′ loc loc′ i i′ e calls answers loading loaded =
+    λ n. books g C (begin (SelectSuperblock (one n) (two n))) (calls ++ crash ∷ loading) (answers ++ true ∷ loaded)
+  where
+    one : i .wf .first .value ≡ i′ .wf .first .value
+    one = same-value (ap (λ (t : Two (Option Superblock)). at t false) (sym e) ∙ i .wf .first .holds) (i′ .wf .first .holds)
+
+    two : i .wf .second .value ≡ i′ .wf .second .value
+    two = same-value (ap (λ (t : Two (Option Superblock)). at t true) (sym e) ∙ i .wf .second .holds) (i′ .wf .second .holds)
 
 module _ (g : Geometry) (C : Codec) (L : Limits) where
   -- the relation through a list

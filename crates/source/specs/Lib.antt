@@ -11,3 +11,4 @@ pub mod Answers
 pub mod Open
 pub mod PreservedReady
 pub mod Preserved
+pub mod Effects
