@@ -112,6 +112,17 @@ module _ {ℓ} {A : Type ℓ} where
       whole : splice d at (s ++ t) ≡ take at d ++ s ++ t ++ drop (at + length s + length t) d
       whole = splice-is d at (s ++ t) ∙ rw more (simp append-assoc)
 
+  -- the front of a run, then the next part of it
+  pub splice-more : (d f : List A) (t : ℕ) (x y : List A) → t ≤ length f → drop t f ≡ x ++ y → t + length x ≤ length d
+      → splice (splice d 0 (take t f)) t x ≡ splice d 0 (take (t + length x) f)
+  splice-more d f t x y h e k =
+      ap (λ (n : ℕ). splice (splice d 0 (take t f)) n x) (sym (zero-add (length (take t f)) ∙ long))
+      ∙ splice-then d 0 (take t f) x (omega (arith, long))
+      ∙ ap (splice d 0) (sym (take-add t (length x) f ∙ ap (λ (l : List A). take t f ++ l) (ap (take (length x)) e ∙ take-at x y (length x) refl)))
+    where
+      long : length (take t f) ≡ t
+      long = length-take-le t f h
+
   -- a second run over the same places covers the first
   pub splice-over : (d : List A) (at : ℕ) (s t : List A) → at + length s ≤ length d → length s ≤ length t → splice (splice d at s) at t ≡ splice d at t
   splice-over d at s t h k =

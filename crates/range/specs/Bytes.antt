@@ -1,7 +1,7 @@
 -- Numbers and lengths as bytes: what is written low byte first reads back as it was, and bytes that were read are what would be written.
 -- Over the width w of a number in bytes. Assumes nothing.
 use Prim.Native.Nat.{ℕ, zero, suc, _+_, _*_, _/_, _%_, _^_, _≤_, _<_}
-use mathlib.Core.Bool.{Bool, true}
+use mathlib.Core.Bool.{Bool, true, false}
 use mathlib.Core.Path.{_≡_, refl, sym, _∙_, ap}
 use mathlib.Core.List.{List, [], _∷_, _++_, append-assoc}
 use native.Mathlib.Nat.{pow-suc, pow-zero, zero-mul, suc-mul, add-comm}
@@ -9,8 +9,8 @@ use native.Mathlib.Omega.{arith}
 use lib.ListN.{length, take, drop, getD, length-append, length-drop}
 use lib.Dec.{leb, ltb}
 use lib.Seq.{take-at, drop-at, take-add, drop-drop, length-take-le, getD-drop}
-use borrow.Author.Tests.{lt-ltb, le-leb, ltb-true, leb-true}
-use Rattle.laws.specs.Choice.{also-left, also-right, also-both}
+use borrow.Author.Tests.{lt-ltb, le-leb, lt-leb, ltb-true, leb-true}
+use Rattle.laws.specs.Choice.{also, also-left, also-right, also-both, not-so}
 use Rattle.laws.specs.Fold.{every, every-append, every-take, every-drop, every-all, every-at}
 use Rattle.range.specs.Form.{lowFirst, fromLow, lengthBytes, lengthsFrom, okLength, blockCount, entryCount}
 
@@ -42,6 +42,15 @@ ok-high most n e = leb-true n most (also-right (leb 1 n) (leb n most) e)
 pub ok-yes : (most n : ℕ) → 1 ≤ n → n ≤ most → okLength most n ≡ true
 unfolding okLength
 ok-yes most n h k = also-both (leb 1 n) (leb n most) (le-leb 1 n h) (le-leb n most k)
+
+-- one that is too short, and one that is too long
+pub ok-short : (most n : ℕ) → n < 1 → okLength most n ≡ false
+unfolding okLength also
+ok-short most n h = simp (lt-leb 1 n h)
+
+pub ok-long : (most n : ℕ) → most < n → okLength most n ≡ false
+unfolding okLength
+ok-long most n h = not-so (okLength most n) (λ e. let k = ok-high most n e in omega arith)
 
 -- a number in w bytes
 pub length-lowFirst : (w n : ℕ) → length (lowFirst w n) ≡ w

@@ -10,6 +10,7 @@ use lib.ListN.{length, take, drop, getD, replicate}
 use lib.Seq.{take-take, length-take-le, getD-take, take-add}
 use Rattle.laws.specs.Part.{drop-take, length-part}
 use Rattle.laws.specs.Splice.{splice, take-splice, take-splice-through, part-splice}
+use Rattle.laws.specs.Ring.{wrap, spliceAround}
 use Rattle.laws.specs.Fold.{sum, every, sum-append}
 use Rattle.laws.specs.Cut.{cut, flat, lengths, length-flat, length-cut, lengths-cut, flat-cut, cut-flat, cut-at, cut-append, cut-enough, cut-take, cut-drop}
 use Rattle.range.specs.Form.{Entry, BlockSize, MostEntries, HeadSize, lengthBytes, used, blocksFor, usedAt, blocksAt, encodeAt, okLength, Good}
@@ -157,24 +158,26 @@ module _ (w most : ℕ) (bytes lens : List ℕ) (n : ℕ) (hn : n ≤ length len
   pub blocksAt-view : blocksAt w (view bytes lens n) ≡ blocksFor (used w n (total lens n))
   blocksAt-view = ap blocksFor usedAt-view
 
-  -- written run by run: b blocks, the lengths' bytes ls, t bytes of bodies, z zeros, at the writer's own places
+  -- written run by run into a ring: b blocks, the lengths' bytes ls, t bytes of bodies, z zeros, at the writer's own places
   pub write-view : (out x1 x2 x3 x4 ls : List ℕ) (at b t z p2 p3 p4 : ℕ) → b ≡ blocksFor (used w n t) → t ≡ total lens n → z + used w n t ≡ b * BlockSize
-      → at + b * BlockSize ≤ length out → ls ≡ lengthBytes w (take n lens) → p2 ≡ at + HeadSize → p3 ≡ at + HeadSize + n * w → p4 ≡ at + used w n t
-      → x1 ≡ splice out at (head b n)
-      → x2 ≡ splice x1 p2 ls
-      → x3 ≡ splice x2 p3 (take t bytes)
-      → x4 ≡ splice x3 p4 (replicate z 0)
-      → x4 ≡ splice out at (encodeAt w (view bytes lens n))
-  write-view out x1 x2 x3 x4 ls at b t z p2 p3 p4 eb et ez fits el e2 e3 e4 q1 q2 q3 q4 =
+      → at < length out → b * BlockSize ≤ length out → ls ≡ lengthBytes w (take n lens) → p2 ≡ wrap (length out) (at + HeadSize)
+      → p3 ≡ wrap (length out) (at + (HeadSize + n * w)) → p4 ≡ wrap (length out) (at + used w n t)
+      → x1 ≡ spliceAround out at (head b n)
+      → x2 ≡ spliceAround x1 p2 ls
+      → x3 ≡ spliceAround x2 p3 (take t bytes)
+      → x4 ≡ spliceAround x3 p4 (replicate z 0)
+      → x4 ≡ spliceAround out at (encodeAt w (view bytes lens n))
+  write-view out x1 x2 x3 x4 ls at b t z p2 p3 p4 eb et ez h fits el e2 e3 e4 q1 q2 q3 q4 =
       write-runs w (view bytes lens n) out x1 x2 x3 x4 at p2 p3 p4
+      h
       (omega (arith, fits, blocks))
       e2
-      (omega (arith, e3, ap (λ (m : ℕ). m * w) count))
-      (omega (arith, e4, uses))
-      (q1 ∙ (λ i. splice out at (head (blocks i) (sym count i))))
-      (q2 ∙ ap (splice x1 p2) (el ∙ ap (lengthBytes w) (sym (lengths-view bytes lens n ht))))
-      (q3 ∙ ap (splice x2 p3) (ap (λ (m : ℕ). take m bytes) et ∙ sym (flat-view bytes lens n)))
-      (q4 ∙ ap (λ (m : ℕ). splice x3 p4 (replicate m 0)) zeros)
+      (e3 ∙ ap (λ (m : ℕ). wrap (length out) (at + (HeadSize + m * w))) (sym count))
+      (e4 ∙ ap (λ (m : ℕ). wrap (length out) (at + m)) uses)
+      (q1 ∙ (λ i. spliceAround out at (head (blocks i) (sym count i))))
+      (q2 ∙ ap (spliceAround x1 p2) (el ∙ ap (lengthBytes w) (sym (lengths-view bytes lens n ht))))
+      (q3 ∙ ap (spliceAround x2 p3) (ap (λ (m : ℕ). take m bytes) et ∙ sym (flat-view bytes lens n)))
+      (q4 ∙ ap (λ (m : ℕ). spliceAround x3 p4 (replicate m 0)) zeros)
     where
       count : length (view bytes lens n) ≡ n
       count = length-view bytes lens n hn

@@ -1,11 +1,11 @@
 -- A range written run by run: the head, the lengths, the bodies, the padding. Each run's length, and that the four runs one after another,
--- at any place of a longer memory, are the one write of the encoded range. Over the width w of a length. Assumes nothing.
+-- from any place of a ring, are the one write of the encoded range. Over the width w of a length. Assumes nothing.
 use Prim.Native.Nat.{ℕ, _+_, _*_, _/_, _%_, _≤_, _<_}
 use mathlib.Core.Path.{_≡_, refl, sym, _∙_, ap}
 use mathlib.Core.List.{List, [], _∷_, _++_}
 use native.Mathlib.Omega.{arith}
 use lib.ListN.{length, length-append, length-replicate}
-use Rattle.laws.specs.Splice.{splice, splice-then}
+use Rattle.laws.specs.Ring.{wrap, spliceAround, spliceAround-then}
 use Rattle.laws.specs.Cut.{flat, lengths, length-lengths, length-flat}
 use Rattle.range.specs.Form.{Entry, BlockSize, HeadSize, lowFirst, lengthBytes, usedAt, blocksAt, encodeAt}
 use Rattle.range.specs.Bytes.{length-lowFirst, low-two, length-lengthBytes}
@@ -34,44 +34,55 @@ module _ (w : ℕ) (es : List Entry) where
   pub length-padding : usedAt w es + length (padding w es) ≡ blocksAt w es * BlockSize
   length-padding = simp (length-replicate {A = ℕ}) (omega (arith, blocks-hold (usedAt w es)))
 
-  -- the places p2, p3, p4 are the writer's own sums
-  pub write-runs : (out x1 x2 x3 x4 : List ℕ) (at p2 p3 p4 : ℕ) → at + blocksAt w es * BlockSize ≤ length out
-      → p2 ≡ at + HeadSize → p3 ≡ at + HeadSize + length es * w → p4 ≡ at + usedAt w es
-      → x1 ≡ splice out at (head (blocksAt w es) (length es))
-      → x2 ≡ splice x1 p2 (lengthBytes w (lengths es))
-      → x3 ≡ splice x2 p3 (flat es)
-      → x4 ≡ splice x3 p4 (padding w es)
-      → x4 ≡ splice out at (encodeAt w es)
-  write-runs out x1 x2 x3 x4 at p2 p3 p4 fits e2 e3 e4 q1 q2 q3 q4 =
+  -- the places p2, p3, p4 are the writer's own, counted going round
+  pub write-runs : (out x1 x2 x3 x4 : List ℕ) (at p2 p3 p4 : ℕ) → at < length out → blocksAt w es * BlockSize ≤ length out
+      → p2 ≡ wrap (length out) (at + HeadSize) → p3 ≡ wrap (length out) (at + (HeadSize + length es * w)) → p4 ≡ wrap (length out) (at + usedAt w es)
+      → x1 ≡ spliceAround out at (head (blocksAt w es) (length es))
+      → x2 ≡ spliceAround x1 p2 (lengthBytes w (lengths es))
+      → x3 ≡ spliceAround x2 p3 (flat es)
+      → x4 ≡ spliceAround x3 p4 (padding w es)
+      → x4 ≡ spliceAround out at (encodeAt w es)
+  write-runs out x1 x2 x3 x4 at p2 p3 p4 h fits e2 e3 e4 q1 q2 q3 q4 =
       q4
-      ∙ (λ i. splice (through3 i) (place4 i) (padding w es))
-      ∙ splice-then out at (h ++ l ++ b) (padding w es) (omega (arith, e4, place4, room))
-      ∙ ap (splice out at) (sym encode-is)
+      ∙ (λ i. spliceAround (through3 i) (place (runs ++ bodies) (usedAt w es) p4 e4 long3 i) (padding w es))
+      ∙ spliceAround-then out at (runs ++ bodies) (padding w es) h (omega (arith, fits, long3, length-padding))
+      ∙ ap (spliceAround out at) (sym encode-is)
     where
-      h : List ℕ
-      h = head (blocksAt w es) (length es)
+      first : List ℕ
+      first = head (blocksAt w es) (length es)
 
-      l : List ℕ
-      l = lengthBytes w (lengths es)
+      sizes : List ℕ
+      sizes = lengthBytes w (lengths es)
 
-      b : List ℕ
-      b = flat es
+      runs : List ℕ
+      runs = first ++ sizes
 
-      room : at + usedAt w es ≤ length out
-      room = omega (arith, fits, blocks-hold (usedAt w es))
+      bodies : List ℕ
+      bodies = flat es
 
-      place2 : p2 ≡ at + length h
-      place2 = omega (arith, e2, length-head (blocksAt w es) (length es))
+      long1 : length first ≡ HeadSize
+      long1 = length-head (blocksAt w es) (length es)
 
-      through2 : x2 ≡ splice out at (h ++ l)
+      long2 : length runs ≡ HeadSize + length es * w
+      long2 = length-append first sizes ∙ (λ i. long1 i + length-run-lengths i)
+
+      long3 : length (runs ++ bodies) ≡ usedAt w es
+      long3 = length-append runs bodies ∙ (λ i. long2 i + length-flat es i)
+
+      used-in : usedAt w es ≤ length out
+      used-in = omega (arith, fits, blocks-hold (usedAt w es))
+
+      place : (s : List ℕ) (n p : ℕ) → p ≡ wrap (length out) (at + n) → length s ≡ n → p ≡ wrap (length out) (at + length s)
+      place s n p e l = e ∙ ap (λ (m : ℕ). wrap (length out) (at + m)) (sym l)
+
+      through2 : x2 ≡ spliceAround out at runs
       through2 =
-          q2 ∙ (λ i. splice (q1 i) (place2 i) l) ∙ splice-then out at h l (omega (arith, room, length-head (blocksAt w es) (length es)))
+          q2
+          ∙ (λ i. spliceAround (q1 i) (place first HeadSize p2 e2 long1 i) sizes)
+          ∙ spliceAround-then out at first sizes h (omega (arith, used-in, long1, length-run-lengths))
 
-      place3 : p3 ≡ at + length (h ++ l)
-      place3 = omega (arith, e3, length-append h l, length-head (blocksAt w es) (length es), length-run-lengths)
-
-      through3 : x3 ≡ splice out at (h ++ l ++ b)
-      through3 = q3 ∙ (λ i. splice (through2 i) (place3 i) b) ∙ splice-then out at (h ++ l) b (omega (arith, e3, place3, room))
-
-      place4 : p4 ≡ at + length (h ++ l ++ b)
-      place4 = omega (arith, e4, e3, place3, length-append (h ++ l) b, length-flat es)
+      through3 : x3 ≡ spliceAround out at (runs ++ bodies)
+      through3 =
+          q3
+          ∙ (λ i. spliceAround (through2 i) (place runs (HeadSize + length es * w) p3 e3 long2 i) bodies)
+          ∙ spliceAround-then out at runs bodies h (omega (arith, used-in, long2, length-flat es))

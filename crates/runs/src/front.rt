@@ -9,9 +9,9 @@ pub fn move_bytes(a: &mut [u8], from: usize, count: usize)
     ensures { λ _. ⌜ now (a .exit) ≡ splice (now (a .entry)) 0 (take count (drop from (now (a .entry)))) ⌝ }
 {
     let left = room(a.len(), from);
-    let n = lesser(count, left);
+    let size = lesser(count, left);
     let mut j = 0;
-    while j < n {
+    while j < size {
         a[j] = a[from + j];
         j += 1;
     }

@@ -4,6 +4,7 @@ use layout::Decision;
 use layout::Geometry;
 use layout::Location;
 use libc::STDOUT_FILENO;
+use writer::Written;
 
 fn day() -> Geometry {
     Geometry {
@@ -51,10 +52,27 @@ fn table_length(len: u64) {
     print_decision(loc.valid_indirection_table_location(day()));
 }
 
+// The blocks of 15 entries of 255 bytes and one of `last` bytes.
+fn last_entry(last: u16) {
+    let bodies = [0u8; 4096];
+    let mut lengths = [255u16; 16];
+    lengths[15] = last;
+    io::write_all(STDOUT_FILENO, b"15 entries of 255 bytes and one of ");
+    io::print_decimal(STDOUT_FILENO, last as u64);
+    io::write_all(STDOUT_FILENO, b", in blocks: ");
+    let w = writer::range_blocks(&bodies, &lengths, 16);
+    match w {
+        Written::Blocks(b) => print_number(b),
+        Written::Refused(q) => print_refusal(q),
+    }
+}
+
 fn main() {
     io::write_all(STDOUT_FILENO, b"table 1 is at ");
     print_address(day().indirection_table1_addr());
     table_length(4096);
     table_length(0);
     table_length(4097);
+    last_entry(251);
+    last_entry(252);
 }

@@ -8,10 +8,10 @@ use Rattle.runs.proofs.front.move_bytes.Statement.{statement}
 use Rattle.runs.proofs.front.move_bytes.Tie as tie
 
 abbrev Inv-loop : tie.InvT-loop
-Inv-loop a₀ from count left n j₀ a j = (j ≤ n) × (length a ≡ length a₀) × (a ≡ splice a₀ 0 (take j (drop from a₀)))
+Inv-loop a₀ from count left size j₀ a j = (j ≤ size) × (length a ≡ length a₀) × (a ≡ splice a₀ 0 (take j (drop from a₀)))
 
 abbrev μ-loop : tie.MeasureT-loop
-μ-loop a₀ from count left n j₀ a j = n - j
+μ-loop a₀ from count left size j₀ a j = size - j
 
 room-requires : tie.Need-room-requires Inv-loop μ-loop
 room-requires c κs = search needs

@@ -1,0 +1,58 @@
+use Prim.Native.Nat.{_+_, _*_, _-_, _≤_}
+use denote.Ref.{now}
+use lib.ListN.{length, drop}
+use mathlib.Core.Path.{_≡_}
+use native.Mathlib.Omega.{arith}
+use Rattle.laws.specs.Fold.{sum, sum-step, sum-end}
+use Rattle.reader.proofs.walk.total.Statement.{statement}
+use Rattle.reader.proofs.walk.total.Tie as tie
+
+abbrev Inv-loop : tie.InvT-loop
+Inv-loop lengths sum₀ i₀ t i = (i ≤ length lengths) × (t ≤ 255 * i) × (t + sum (drop i lengths) ≡ sum lengths)
+
+abbrev μ-loop : tie.MeasureT-loop
+μ-loop lengths sum₀ i₀ t i = length lengths - i
+
+loop-holds : tie.Need-loop-holds Inv-loop μ-loop
+loop-holds c = omega arith
+
+shared-slice-read-wide : tie.Need-shared-slice-read-wide Inv-loop μ-loop
+shared-slice-read-wide c = omega arith
+
+wide-requires : tie.Need-wide-requires Inv-loop μ-loop
+wide-requires c κs = omega arith
+
+add-sum : tie.Need-add-sum Inv-loop μ-loop
+add-sum c = omega arith
+
+add-i : tie.Need-add-i Inv-loop μ-loop
+add-i c = omega arith
+
+loop-less : tie.Need-loop-less Inv-loop μ-loop
+loop-less c = omega arith
+
+loop-again : tie.Need-loop-again Inv-loop μ-loop
+loop-again c =
+    let i = c .before .before .before in
+    let l = now (i .before .before .args .lengths) in
+    (omega arith, omega arith, omega (arith, sum-step l (i .loop .i) (omega arith)))
+
+returns : tie.Need-returns Inv-loop μ-loop
+returns c =
+    let l = now (c .before .before .before .args .lengths) in
+    (omega (arith, sum-end l (c .before .loop .i) (omega arith)), omega (arith, sum-end l (c .before .loop .i) (omega arith)))
+
+pub total-spec : {M : Type 1} → statement M
+total-spec =
+    tie.close
+    (tie.spec
+    Inv-loop
+    μ-loop
+    loop-holds
+    shared-slice-read-wide
+    wide-requires
+    add-sum
+    add-i
+    loop-less
+    loop-again
+    returns)

@@ -1,0 +1,107 @@
+// One range: do the bytes parse as it, and how much does it hold?
+use super::answer::Contents;
+use super::answer::Counted;
+use super::answer::Scanned;
+use super::head::block_count;
+use super::head::entry_count;
+use super::walk::lengths_ok;
+use super::walk::total;
+use super::walk::zeros;
+use range::BLOCK_SIZE;
+use range::HEAD_SIZE;
+use range::MOST_ENTRIES;
+ghost use mathlib.Core.Path.{_≡_};
+ghost use Prim.Native.Nat.{_<_};
+ghost use lib.ListN.{length};
+ghost use Rattle.laws.specs.Choice.{ask};
+ghost use Rattle.range.specs.Form.{entries, parses};
+ghost use Rattle.reader.specs.Answer.{counted, scanned};
+ghost use Rattle.reader.specs.Range.{contentsOf, countsOk};
+
+// What the bytes say of themselves; all 0 where head and lengths aren't all there.
+pub fn contents(s: &[u8]) -> Contents
+    ensures { λ r. ⌜ r ≡ contentsOf (now (s .entry)) ⌝ }
+{
+    let nothing = Contents {
+        blocks: 0,
+        entries: 0,
+        bytes: 0,
+    };
+    if s.len() < HEAD_SIZE {
+        return nothing;
+    }
+    let entries = entry_count(s);
+    let bodies = HEAD_SIZE + entries;
+    if s.len() < bodies {
+        return nothing;
+    }
+    let blocks = block_count(s);
+    let bytes = total(&s[HEAD_SIZE..bodies]);
+    Contents {
+        blocks,
+        entries,
+        bytes,
+    }
+}
+
+// Are the counts those of a range: from 1 to 1,024 entries, and no block more than is needed?
+fn counts_ok(c: Contents) -> bool
+    requires { ⌜ (c .entries < 65536) × (c .bytes < 16777216) ⌝ }
+    ensures { λ r. ⌜ r ≡ countsOk c ⌝ }
+{
+    if c.entries < 1 {
+        return false;
+    }
+    if MOST_ENTRIES < c.entries {
+        return false;
+    }
+    if c.blocks != (HEAD_SIZE + c.entries + c.bytes + (BLOCK_SIZE - 1)) / BLOCK_SIZE {
+        return false;
+    }
+    true
+}
+
+// How many entries the range has, and how many bytes these have together. A 7 where the bytes are no range.
+pub fn scan_range(s: &[u8]) -> Scanned
+    ensures { λ r. ⌜ r ≡ scanned (ask 7 (parses (now (s .entry)))) (entries (now (s .entry))) ⌝ }
+{
+    let c = contents(s);
+    if s.len() != c.blocks * BLOCK_SIZE {
+        return Scanned::Refused(7);
+    }
+    if counts_ok(c) {
+        let bodies = HEAD_SIZE + c.entries;
+        let end = bodies + c.bytes;
+        if lengths_ok(&s[HEAD_SIZE..bodies]) {
+            if zeros(&s[end..]) {
+                return Scanned::Total {
+                    entries: c.entries as u64,
+                    bytes: c.bytes as u64,
+                };
+            }
+        }
+    }
+    Scanned::Refused(7)
+}
+
+// Question 7: do the bytes parse as a range?
+pub fn ask_range(s: &[u8]) -> u8
+    ensures { λ r. ⌜ r ≡ ask 7 (parses (now (s .entry))) ⌝ }
+{
+    let c = scan_range(s);
+    match c {
+        Scanned::Total { entries, bytes } => 0,
+        Scanned::Refused(q) => q,
+    }
+}
+
+// How many entries the range has.
+pub fn count(s: &[u8]) -> Counted
+    ensures { λ r. ⌜ r ≡ counted (ask 7 (parses (now (s .entry)))) (length (entries (now (s .entry)))) ⌝ }
+{
+    let c = scan_range(s);
+    match c {
+        Scanned::Total { entries, bytes } => Counted::Entries(entries),
+        Scanned::Refused(q) => Counted::Refused(q),
+    }
+}

@@ -1,0 +1,124 @@
+// A range into the journal's ring, run by run: the head, the lengths, the bodies, the padding. Each run is cut where the ring ends.
+use super::answer::Written;
+use super::size::Sized;
+use super::size::size_of_range;
+use range::BLOCK_SIZE;
+use range::HEAD_SIZE;
+use runs::fill_around;
+use runs::narrow_around;
+use runs::write_bytes_around;
+ghost use mathlib.Core.Path.{_≡_};
+ghost use Prim.Native.Nat.{_+_, _*_, _≤_, _<_};
+ghost use Rattle.laws.specs.Choice.{ask, unless};
+ghost use Rattle.laws.specs.Ring.{wrap, spliceAround};
+ghost use Rattle.range.specs.Form.{BlockSize, blocks, encode};
+ghost use Rattle.range.specs.Memory.{view};
+ghost use Rattle.range.specs.Runs.{head};
+ghost use Rattle.writer.specs.Answer.{written};
+ghost use Rattle.writer.specs.Ring.{journalOk, askWrite, Ready};
+
+const MOST_BLOCKS: usize = 4096;
+
+// Question 1: is a journal of so many bytes from 1 to 4,096 whole blocks?
+fn ask_journal(len: usize) -> u8
+    ensures { λ r. ⌜ r ≡ ask 1 (journalOk len) ⌝ }
+{
+    if len % BLOCK_SIZE != 0 {
+        return 1;
+    }
+    if len / BLOCK_SIZE < 1 {
+        return 1;
+    }
+    if MOST_BLOCKS < len / BLOCK_SIZE {
+        return 1;
+    }
+    0
+}
+
+// A place on the ring, from a number below twice its length.
+fn wrapped(len: usize, place: usize) -> usize
+    ensures { λ r. ⌜ r ≡ wrap len place ⌝ }
+{
+    if len <= place {
+        return place - len;
+    }
+    place
+}
+
+// The two counts, low byte first.
+fn head_bytes(blocks: usize, n: usize) -> [u8; 4]
+    requires { ⌜ (blocks < 65536) × (n < 65536) ⌝ }
+    ensures { λ r. ⌜ r ≡ head blocks n ⌝ }
+{
+    [
+        (blocks % 256) as u8,
+        (blocks / 256) as u8,
+        (n % 256) as u8,
+        (n / 256) as u8,
+    ]
+}
+
+// How many zeros fill the blocks behind so many bytes.
+fn zeros_behind(used: usize, blocks: usize) -> usize
+    requires { ⌜ (used ≤ blocks * BlockSize) × (blocks < 65536) ⌝ }
+    ensures { λ r. ⌜ r + used ≡ blocks * BlockSize ⌝ }
+{
+    blocks * BLOCK_SIZE - used
+}
+
+// The range of the first n entries, with so many bytes of bodies and so many blocks, from the place `at` on. Head and lengths lie within
+// the first block; bodies and padding may go round.
+fn put(
+    bytes: &[u8],
+    lens: &[u16],
+    n: usize,
+    bodies: usize,
+    blocks: usize,
+    journal: &mut [u8],
+    at: usize,
+)
+    requires { ⌜ Ready (now bytes) (now lens) n bodies blocks (now journal) at ⌝ }
+    ensures { λ _. ⌜ now (journal .exit) ≡ spliceAround (now (journal .entry)) at (encode (view (now (bytes .entry)) (now (lens .entry)) n)) ⌝ }
+{
+    let head = head_bytes(blocks, n);
+    let lengths_at = at + HEAD_SIZE;
+    let bodies_at = lengths_at + n;
+    let padding_at = wrapped(journal.len(), bodies_at + bodies);
+    let zeros = zeros_behind(HEAD_SIZE + n + bodies, blocks);
+    write_bytes_around(&head[0..HEAD_SIZE], journal, at);
+    narrow_around(&lens[0..n], journal, lengths_at);
+    write_bytes_around(&bytes[0..bodies], journal, bodies_at);
+    fill_around(0, zeros, journal, padding_at);
+}
+
+// The range of the first n entries, written from block `start` on.
+pub fn write_range(bytes: &[u8], lens: &[u16], n: u64, journal: &mut [u8], start: u64) -> Written
+    ensures { λ r. ⌜ r ≡ written (askWrite (now (bytes .entry)) (now (lens .entry)) n (now (journal .entry)) start) (blocks (view (now (bytes .entry)) (now (lens .entry)) n)) ⌝ }
+    ensures { λ _. ⌜ now (journal .exit) ≡ unless (askWrite (now (bytes .entry)) (now (lens .entry)) n (now (journal .entry)) start) (now (journal .entry)) (spliceAround (now (journal .entry)) (start * BlockSize) (encode (view (now (bytes .entry)) (now (lens .entry)) n))) ⌝ }
+{
+    let q = ask_journal(journal.len());
+    if q != 0 {
+        return Written::Refused(q);
+    }
+    let all = journal.len() / BLOCK_SIZE;
+    if all as u64 <= start {
+        return Written::Refused(4);
+    }
+    let s = size_of_range(bytes, lens, n);
+    let Sized::Range { bodies, blocks } = s else {
+        return Written::Refused(4);
+    };
+    if all < blocks {
+        return Written::Refused(8);
+    }
+    put(
+        bytes,
+        lens,
+        n as usize,
+        bodies,
+        blocks,
+        journal,
+        start as usize * BLOCK_SIZE,
+    );
+    Written::Blocks(blocks as u64)
+}
