@@ -13,6 +13,7 @@ use Rattle.interval.specs.Interval.{interval}
 use Rattle.superblock.specs.declared.superblock.Superblock.{Superblock}
 use Rattle.superblock.specs.Laws.{WFSuperblock}
 use Rattle.source.specs.Sets.{Ids, isKey, Map, Two, both, at, put, none-some, same-value}
+use Rattle.source.specs.Tables.{no-keys-some}
 use Rattle.source.specs.Codec.{Codec}
 use Rattle.source.specs.JournalDisk as D
 use Rattle.source.specs.JournalDisk.{ReqId, ReqWriteSuperblockId, DiskOp}
@@ -25,7 +26,6 @@ use Rattle.history.specs.Holds.{Holds, Apart, holds-crashed}
 use Rattle.history.specs.Slots.{Slots, slots-wf, slots-not-yet}
 use Rattle.history.specs.Relation.{superOf, OnDisk, Standing, Flight, busy, statusOf, toSlot, Owes, Asked, Done, Phase, quiet, waits, done, flightOf, Sim}
 use Rattle.history.specs.Loading.{by-next, Keeps, told-put}
-use Rattle.history.specs.Working.{no-keys-some}
 use Rattle.history.specs.Commits.{at-slot, slot-answered, none-there}
 use Rattle.history.specs.Landing.{kept-counter}
 

@@ -6,15 +6,15 @@ use mathlib.Core.Path.{_≡_, refl, sym, _∙_, ap, subst}
 use mathlib.Core.Option.{Option, none, some, Option·getD, Option·some-injective}
 use mathlib.Core.Logic.{inr}
 use native.Mathlib.Omega.{arith}
-use Rattle.laws.specs.Choice.{ruin, true-false}
+use Rattle.laws.specs.Choice.{ruin}
 use Rattle.layout.specs.declared.geometry.Geometry.{Geometry}
 use Rattle.layout.specs.declared.location.Location.{Location}
 use Rattle.layout.specs.Journal.{JournalPosAdd}
-use Rattle.interval.specs.declared.interval.JournalInterval.{JournalInterval}
 use Rattle.superblock.specs.declared.superblock.Superblock.{Superblock}
 use Rattle.superblock.specs.Superblock.{IncrementSuperblockCounter}
 use Rattle.superblock.specs.Laws.{WFSuperblock}
-use Rattle.source.specs.Sets.{Ids, no-ids, Map, no-keys, isKey, keys, Two, both, at, put, none-some, at-both}
+use Rattle.source.specs.Sets.{no-ids, Two, both, at, put, none-some, at-both}
+use Rattle.source.specs.Tables.{no-keys-of}
 use Rattle.source.specs.Codec.{Codec}
 use Rattle.source.specs.JournalDisk as D
 use Rattle.source.specs.JournalDisk.{ReqId, ReqWriteSuperblockId}
@@ -27,14 +27,6 @@ use Rattle.history.specs.Slots.{slots-wf}
 use Rattle.history.specs.Relation.{superOf, Standing, statusOf, toSlot, Quiet, waits, flightOf, Sim}
 use Rattle.history.specs.Loading.{by-next, Keeps}
 use Rattle.history.specs.Working.{on-quiet}
-
--- no id is outstanding: no write is in flight
-pub no-keys-of : (m : Map JournalInterval) → keys m ≡ no-ids → m ≡ no-keys
-no-keys-of m e = λ i x. go (m x) (ap (λ (f : Ids). f x) e) i
-  where
-    go : (o : Option JournalInterval) → isKey o ≡ false → o ≡ none
-    go none q = refl
-    go (some v) q = true-false q
 
 -- the one write in flight, by the slot that answers
 pub at-slot : (w which : Bool) (id : ReqId) (new : Superblock) (r : ReqWriteSuperblockId) → at (toSlot w id new) which ≡ some r

@@ -16,6 +16,7 @@ use Rattle.interval.specs.Journal.{JournalBlock}
 use Rattle.superblock.specs.declared.superblock.Superblock.{Superblock}
 use Rattle.superblock.specs.Superblock.{IncrementSuperblockCounter}
 use Rattle.source.specs.Sets.{Ids, no-ids, join, Map, no-keys, bind, AtMost, both, none-some, bind-here}
+use Rattle.source.specs.Tables.{Values, values-bind, keys-bind}
 use Rattle.source.specs.JournalDisk.{JournalUntouched}
 use Rattle.source.specs.JournalCache as M
 use Rattle.source.specs.JournalSystem as Y
@@ -24,7 +25,6 @@ use Rattle.source.specs.Limits.{limits}
 use Rattle.source.specs.Departures.{CrashStep}
 use Rattle.history.specs.Ledger.{Call, writeJournal, journalWritten, commitLog, commitLocation, superblockWritten, freeze, receive, add, land, crash, blocks, begin, tell, books, Shown, shown}
 use Rattle.history.specs.Relation.{idle}
-use Rattle.history.specs.Working.{Values, values-bind, keys-bind}
 use Rattle.history.specs.Calls.{tied-crash, Takes}
 use Rattle.history.specs.Reloaded.{shows}
 use Rattle.history.specs.Whole.{Trace, Loaded, books-append, books-loads}

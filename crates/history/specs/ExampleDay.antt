@@ -11,13 +11,13 @@ use Rattle.interval.specs.Interval.{interval}
 use Rattle.interval.specs.Update.{updated}
 use Rattle.superblock.specs.Superblock.{IncrementSuperblockCounter}
 use Rattle.source.specs.Sets.{no-ids, join, no-keys, bind, AtMost, none-few, both, none-some, join-here, bind-here}
+use Rattle.source.specs.Tables.{keys-one, join-leave, bind-unbind, one-few}
 use Rattle.source.specs.JournalSystem as Y
 use Rattle.source.specs.Limits.{limits}
 use Rattle.history.specs.Ledger.{writeJournal, journalWritten, commitLog, commitLocation, superblockWritten, freeze, receive, add, land, log, location}
 use Rattle.history.specs.Relation.{idle, busy, toSlot}
 use Rattle.history.specs.Calls.{Takes}
 use Rattle.history.specs.Format.{format, encodeBlocks}
-use Rattle.history.specs.LoadsSuperblocks.{one-few, join-leave, bind-unbind, keys-one}
 use Rattle.history.specs.Can
 use Rattle.history.specs.Can.{store}
 use Rattle.history.specs.ExampleLoad.{g, table2, table2-valid, sb0, slots0, j0, j0-sized, Somewhere, onward, dayAt, none-pending, day-limits, r9}

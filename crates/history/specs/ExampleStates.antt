@@ -20,6 +20,7 @@ use Rattle.interval.specs.Update.{updated, updated-at, length-updated}
 use Rattle.superblock.specs.declared.superblock.Superblock.{Superblock}
 use Rattle.range.specs.Form.{blocksAt, okLength}
 use Rattle.source.specs.Sets.{no-ids, join, Map, no-keys, bind, keys, AtMost, none-few, idsOf, Two, both, none-some, at-both}
+use Rattle.source.specs.Tables.{Values, values-bind}
 use Rattle.source.specs.Codec.{JournalEntry}
 use Rattle.source.specs.JournalDisk as D
 use Rattle.source.specs.JournalDisk.{ReqWriteSuperblockId}
@@ -27,7 +28,6 @@ use Rattle.source.specs.JournalSystem as Y
 use Rattle.source.specs.Limits.{limits, DiskLimits}
 use Rattle.history.specs.Ledger.{log, location}
 use Rattle.history.specs.Relation.{idle, busy, toSlot}
-use Rattle.history.specs.Working.{Values, values-bind}
 use Rattle.history.specs.Format.{format, goodEntries, encodeBlocks, length-encodeBlocks, lengths-encodeBlocks}
 use Rattle.history.specs.LoadsSuperblocks.{Sized}
 use Rattle.history.specs.Can.{store}

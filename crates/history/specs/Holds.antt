@@ -5,11 +5,10 @@ use mathlib.Core.Path.{_≡_, sym, _∙_, ap}
 use mathlib.Core.List.{List, [], _++_, map-append}
 use mathlib.Core.Option.{Option, none, some}
 use mathlib.Core.Logic.{inl, inr, ⊎-elim}
-use native.Mathlib.Nat.{mod-eq-of-lt, mod-eq-sub-mod}
 use native.Mathlib.Omega.{arith}
 use lib.ListN.{length, drop, length-append, length-map}
 use lib.Seq.{drop-at, ext-getD}
-use Rattle.laws.specs.Ring.{wrap, off, by-wrap, wrap-in, wrap-add, wrap-off, off-wrap}
+use Rattle.laws.specs.Ring.{wrap, off, by-wrap, wrap-in, wrap-mod, wrap-add, wrap-off, off-wrap}
 use Rattle.layout.specs.declared.geometry.Geometry.{Geometry}
 use Rattle.layout.specs.Journal.{JournalPosAdd}
 use Rattle.layout.specs.Laws.{pos-add-wrap}
@@ -26,11 +25,7 @@ use Rattle.history.specs.Codes.{whole}
 
 -- a position moved on, modulo N
 pub pos-add-mod : (g : Geometry) (start k : ℕ) → start < g .blocks → k ≤ g .blocks → JournalPosAdd g start k ≡ (start + k) % g .blocks
-pos-add-mod g start k h l =
-    pos-add-wrap g start k
-    ∙ by-wrap (λ (w : ℕ). w ≡ (start + k) % g .blocks) (g .blocks) (start + k)
-    (λ m. sym (mod-eq-sub-mod m ∙ mod-eq-of-lt (omega arith)))
-    (λ m. sym (mod-eq-of-lt m))
+pos-add-mod g start k h l = pos-add-wrap g start k ∙ wrap-mod (g .blocks) (start + k) (omega arith)
 
 pub pos-add-in : (g : Geometry) (start k : ℕ) → start < g .blocks → k ≤ g .blocks → JournalPosAdd g start k < g .blocks
 pos-add-in g start k h l = rw (pos-add-wrap g start k) (wrap-in (g .blocks) (start + k) (omega arith))

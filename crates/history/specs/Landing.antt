@@ -15,6 +15,7 @@ use Rattle.interval.specs.Journal.{JournalBlock}
 use Rattle.superblock.specs.declared.superblock.Superblock.{Superblock}
 use Rattle.superblock.specs.Superblock.{IncrementSuperblockCounter}
 use Rattle.source.specs.Sets.{Two, at, put}
+use Rattle.source.specs.Tables.{no-keys-some}
 use Rattle.source.specs.Codec.{Codec}
 use Rattle.source.specs.JournalDisk as D
 use Rattle.source.specs.JournalDisk.{ReqWriteSuperblockId}
@@ -25,7 +26,6 @@ use Rattle.history.specs.Holds.{Holds, pos-add-mod, holds-moved}
 use Rattle.history.specs.Slots.{parity, next-parity, Slots, slots-wf, slots-land, slots-again}
 use Rattle.history.specs.Relation.{superOf, Standing, Owes, Asked, Done, Phase, quiet, waits, done, flightOf, Sim}
 use Rattle.history.specs.Loading.{by-next}
-use Rattle.history.specs.Working.{no-keys-some}
 use Rattle.history.specs.Commits.{at-slot, none-there, not-not}
 
 -- both commits step the counter

@@ -16,6 +16,7 @@ use Rattle.interval.specs.Laws.{Contiguous?, parts-fit, sliceOf, front-back-sli
 use Rattle.superblock.specs.declared.superblock.Superblock.{Superblock}
 use Rattle.superblock.specs.Laws.{WFSuperblock}
 use Rattle.source.specs.Sets.{no-ids, no-keys, bind, AtMost, none-few, Two, both, at, put, none-some, same-value, at-both, at-put, bind-here}
+use Rattle.source.specs.Tables.{values-bind, keys-one, bind-unbind, one-few}
 use Rattle.source.specs.Codec.{JournalRange, Codec, Disk-JournalRange}
 use Rattle.source.specs.JournalDisk.{ReqId, ReqReadJournalOp, RespReadJournalOp}
 use Rattle.source.specs.JournalCache as M
@@ -28,10 +29,9 @@ use Rattle.history.specs.Codes.{whole, full-whole}
 use Rattle.history.specs.Slots.{Slots, slots-wf}
 use Rattle.history.specs.Relation.{Pieces}
 use Rattle.history.specs.Loading.{pieces-put}
-use Rattle.history.specs.Working.{values-bind}
 use Rattle.history.specs.Calls.{tied-page, tied-paged, Takes}
 use Rattle.history.specs.Whole.{Trace}
-use Rattle.history.specs.LoadsSuperblocks.{reading, resting, Sized, Room, one-few, bind-unbind, keys-one, disk-meets, joined, one, one-only, one-differs, one-answered}
+use Rattle.history.specs.LoadsSuperblocks.{reading, resting, Sized, Room, disk-meets, joined, one, one-only, one-differs, one-answered}
 
 -- the pieces of a superblock's interval
 module _ (g : Geometry) (j : List (Option JournalBlock)) (v : Superblock) (wf : WFSuperblock g v) (size : length j ≡ g .blocks) where

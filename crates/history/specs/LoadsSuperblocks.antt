@@ -6,7 +6,6 @@ use mathlib.Core.List.{List, [], _∷_}
 use mathlib.Core.Option.{Option, none, some}
 use mathlib.Core.Logic.{_⊎_, inr, ⊎-elim}
 use native.Mathlib.Omega.{arith}
-use lib.Dec.{eqb}
 use lib.ListN.{length, getD}
 use Rattle.laws.specs.Choice.{ruin}
 use Rattle.layout.specs.declared.geometry.Geometry.{Geometry}
@@ -15,7 +14,8 @@ use Rattle.interval.specs.Facts.{ContiguousJournalInterval}
 use Rattle.interval.specs.Journal.{JournalBlock}
 use Rattle.superblock.specs.declared.superblock.Superblock.{Superblock}
 use Rattle.superblock.specs.Laws.{WFSuperblock, facts-superblock}
-use Rattle.source.specs.Sets.{Ids, no-ids, join, leave, Map, no-keys, bind, unbind, isKey, keys, AtMost, none-few, idsOf, Two, both, at, put, none-some, at-both, at-put, join-here}
+use Rattle.source.specs.Sets.{Ids, no-ids, join, leave, Map, no-keys, keys, AtMost, none-few, Two, both, at, put, none-some, at-both, at-put, join-here}
+use Rattle.source.specs.Tables.{Values, join-leave, one-few, none-if}
 use Rattle.source.specs.Codec.{Codec}
 use Rattle.source.specs.JournalDisk as D
 use Rattle.source.specs.JournalDisk.{ReqId, ReqReadSuperblockOp, RespReadSuperblockOp}
@@ -25,7 +25,6 @@ use Rattle.source.specs.Limits.{Limits, limits, BlockSize, DiskLimits, Joined, 
 use Rattle.source.specs.Departures.{Source, MachineStep}
 use Rattle.history.specs.Ledger.{readSuperblock, superblockRead}
 use Rattle.history.specs.Slots.{Slots}
-use Rattle.history.specs.Working.{Values}
 use Rattle.history.specs.Calls.{tied-read, tied-superblock, Takes}
 use Rattle.history.specs.Whole.{Trace}
 
@@ -48,32 +47,6 @@ pub record Room (L : Limits) : Type 0 where
 
 pub limits-room : Room limits
 limits-room = record { superblock-read = omega arith; journal-read = omega arith }
-
--- one id, put in and taken out again
-pub one-few : (n k : ℕ) → 1 ≤ n → AtMost n (join no-ids k)
-unfolding idsOf
-one-few n k h = record { listed = k ∷ []; few = h; all = λ i e. e }
-
-pub join-leave : (k : ℕ) → leave (join no-ids k) k ≡ no-ids
-join-leave k = λ i x. go (eqb k x) i
-  where
-    go : (b : Bool) → cond b false (cond b true false) ≡ false
-    go true = refl
-    go false = refl
-
-pub bind-unbind : (k : ℕ) (v : JournalInterval) → unbind (bind no-keys k v) k ≡ no-keys
-bind-unbind k v = λ i x. go (eqb k x) i
-  where
-    go : (b : Bool) → cond b none (cond b (some v) none) ≡ none
-    go true = refl
-    go false = refl
-
-pub keys-one : (k : ℕ) (v : JournalInterval) → keys (bind no-keys k v) ≡ join no-ids k
-keys-one k v = λ i x. go (eqb k x) i
-  where
-    go : (b : Bool) → isKey (cond b (some v) none) ≡ cond b true false
-    go true = refl
-    go false = refl
 
 module _ (g : Geometry) (L : Limits) (slots : Two (Option Superblock)) (j : List (Option JournalBlock)) (w : Bool) (v : Superblock) (selected : Slots g slots w v)
     (size : length j ≡ g .blocks) (sized : Sized j) where
@@ -117,10 +90,6 @@ read-put results values true h true = inr refl
 read-put results values true h false = h false
 read-put results values false h true = h true
 read-put results values false h false = inr refl
-
-pub none-if : (o : Option ReqId) → ((id : ReqId) → o ≡ some id → ⊥) → o ≡ none
-none-if none f = refl
-none-if (some id) f = absurd (f id refl)
 
 abbrev pub superblocksAt : Two (Option ReqId) → Two SuperblockReadResult → M.Variables
 superblocksAt reads results = M.Variables.LoadingSuperblock (record { outstandingSuperblockReads = reads; superblocks = results; syncReqs = no-keys })

@@ -1,20 +1,15 @@
 -- What question 2 asks of a store beside 000's `Inv` and the limits: reads stand at the disk as the machine awaits them, and journal writes
 -- in flight lie apart, behind what is kept. Together with the relation and `Inv` it is question 2; the steps keep it (Kept).
-use Prim.Native.Nat.{ℕ, _+_, _<_, max}
+use Prim.Native.Nat.{ℕ, _<_}
 use mathlib.Core.Bool.{Bool, true, false, not}
 use mathlib.Core.Path.{_≡_, refl, sym, _∙_, ap}
 use mathlib.Core.Option.{Option, none, some}
-use mathlib.Core.Logic.{inl}
-use native.Mathlib.Omega.{arith}
-use Rattle.laws.specs.Choice.{not-so, by-ltb}
 use Rattle.laws.specs.Ring.{off}
 use Rattle.layout.specs.declared.geometry.Geometry.{Geometry}
 use Rattle.interval.specs.declared.interval.JournalInterval.{JournalInterval}
 use Rattle.interval.specs.Interval.{interval}
-use Rattle.interval.specs.Facts.{ValidJournalInterval, ContiguousJournalInterval, InCyclicRange}
+use Rattle.interval.specs.Facts.{ContiguousJournalInterval, InCyclicRange}
 use Rattle.interval.specs.Overlap.{journalIntervalOverlap, journalCyclicIntervalOverlap}
-use Rattle.interval.specs.Update.{Shares}
-use Rattle.interval.specs.Meets.{meets-facts, overlap-shares}
 use Rattle.superblock.specs.declared.superblock.Superblock.{Superblock}
 use Rattle.superblock.specs.Superblock.{SelectSuperblock}
 use Rattle.source.specs.Sets.{keys, both, at, put}
@@ -24,33 +19,8 @@ use Rattle.source.specs.JournalDisk.{ReqId, ReqWriteSuperblockId}
 use Rattle.source.specs.JournalCache as M
 use Rattle.source.specs.Limits.{Limits, MachineLimits, DiskLimits, SystemMeets, awaitedSuperblockReads, awaitedJournalReads, awaitedSuperblockWrites, awaitedJournalWrites, newWrite}
 use Rattle.history.specs.Ledger.{blocks, Kept, Ledger}
-use Rattle.history.specs.Holds.{Apart}
 use Rattle.history.specs.Slots.{Slots, picked-is}
 use Rattle.history.specs.Relation.{superOf, keptInterval, Phase, quiet, waits, done, Flight, flightOf, idle, busy, Sim}
-
--- intervals without a common block do not overlap, where one is contiguous and not empty and the other is not empty either
-pub apart-clear : (g : Geometry) (a b : JournalInterval) → ValidJournalInterval g a → ValidJournalInterval g b → 0 < a .len → 0 < b .len → Apart g a b
-    → journalCyclicIntervalOverlap g a b ≡ false
-apart-clear g a b fa fb ha hb f = not-so (journalCyclicIntervalOverlap g a b) (λ e. f (overlap-shares g a b fa fb ha hb e))
-
--- an empty interval that is not strictly inside
-pub empty-clear : (g : Geometry) (a : JournalInterval) (start : ℕ) → ContiguousJournalInterval g a → start < g .blocks → (a .start < start → start < a .start + a .len → ⊥)
-    → journalCyclicIntervalOverlap g a (interval start 0) ≡ false
-unfolding journalCyclicIntervalOverlap
-empty-clear g a start fa h f =
-    not-so (journalCyclicIntervalOverlap g a (interval start 0))
-    (by-ltb (λ (t : Bool). t ≡ true → ⊥) (g .blocks) (a .start + a .len) _ _
-    (λ l e. omega arith)
-    (λ l.
-    by-ltb (λ (t : Bool). t ≡ true → ⊥) (g .blocks) (start + 0) _ _
-    (λ m e. omega arith)
-    (λ m e. let p = meets-facts a (interval start 0) e in f (omega arith) (omega arith))))
-
--- two contiguous intervals that overlap, neither empty, share a block
-pub plain-shares : (g : Geometry) (a b : JournalInterval) → ContiguousJournalInterval g a → ContiguousJournalInterval g b → 0 < a .len → 0 < b .len → journalIntervalOverlap a b ≡ true → Shares g a b
-plain-shares g a b fa fb ha hb e =
-    let f = meets-facts a b e in
-    record { block = max (a .start) (b .start); block-in = omega arith; first = inl (omega arith); second = inl (omega arith) }
 
 abbrev pub writtenLen : M.Variables → ℕ
 writtenLen (M.Variables.Ready s) = s .writtenJournalLen

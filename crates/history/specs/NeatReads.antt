@@ -10,40 +10,14 @@ use Rattle.laws.specs.Choice.{false-true, split-eq}
 use Rattle.layout.specs.declared.geometry.Geometry.{Geometry}
 use Rattle.interval.specs.declared.interval.JournalInterval.{JournalInterval}
 use Rattle.superblock.specs.declared.superblock.Superblock.{Superblock}
-use Rattle.source.specs.Sets.{Ids, no-ids, join, leave, Map, no-keys, bind, unbind, Two, at, put, none-some, at-both, bind-there, unbind-here, unbind-there}
+use Rattle.source.specs.Sets.{Ids, no-ids, join, leave, Map, no-keys, bind, unbind, Two, at, put, none-some, at-both, bind-there}
+use Rattle.source.specs.Tables.{join-leave, bind-unbind, bind-comm, unbind-bind-there, unbind-bind}
 use Rattle.source.specs.Codec.{JournalRange}
 use Rattle.source.specs.JournalDisk.{ReqId, RespReadSuperblockOp, RespReadJournalOp}
 use Rattle.source.specs.JournalCache as M
 use Rattle.source.specs.JournalCache.{unlessIs}
 use Rattle.source.specs.Limits.{oneId, bindRead, awaitedSuperblockReads, awaitedJournalReads}
 use Rattle.source.specs.Departures.{Awaited}
-use Rattle.history.specs.LoadsSuperblocks.{join-leave, bind-unbind}
-
--- a table by its places
-module _ (m : Map JournalInterval) (k i : ReqId) where
-  bind-comm : (a b : JournalInterval) → (k ≡ i → ⊥) → bind (bind m k a) i b ≡ bind (bind m i b) k a
-  bind-comm a b n = λ z x. go (m x) (eqb k x) (eqb i x) (λ p q. n (eqb-true k x p ∙ sym (eqb-true i x q))) z
-    where
-      go : (o : Option JournalInterval) (p q : Bool) → (p ≡ true → q ≡ true → ⊥) → cond q (some b) (cond p (some a) o) ≡ cond p (some a) (cond q (some b) o)
-      go o true true f = absurd (f refl refl)
-      go o true false f = refl
-      go o false true f = refl
-      go o false false f = refl
-
-  unbind-bind-there : (a : JournalInterval) → (k ≡ i → ⊥) → unbind (bind m k a) i ≡ bind (unbind m i) k a
-  unbind-bind-there a n = λ z x. go (m x) (eqb k x) (eqb i x) (λ p q. n (eqb-true k x p ∙ sym (eqb-true i x q))) z
-    where
-      go : (o : Option JournalInterval) (p q : Bool) → (p ≡ true → q ≡ true → ⊥) → cond q none (cond p (some a) o) ≡ cond p (some a) (cond q none o)
-      go o true true f = absurd (f refl refl)
-      go o true false f = refl
-      go o false true f = refl
-      go o false false f = refl
-
-unbind-bind : (m : Map JournalInterval) (k : ReqId) (a : JournalInterval) → m k ≡ none → unbind (bind m k a) k ≡ m
-unbind-bind m k a e = λ z x. go x z
-  where
-    go : (x : ReqId) → unbind (bind m k a) k x ≡ m x
-    go x = split-eq k x (λ n. ap (unbind (bind m k a) k) (sym n) ∙ unbind-here (bind m k a) k ∙ sym e ∙ ap m n) (λ n. unbind-there (bind m k a) k x n ∙ bind-there m k x a n)
 
 -- a piece's read in the table, beside the other's
 module _ (id : ReqId) (v : JournalInterval) where

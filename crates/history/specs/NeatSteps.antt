@@ -8,6 +8,7 @@ use Rattle.layout.specs.declared.geometry.Geometry.{Geometry}
 use Rattle.layout.specs.declared.location.Location.{Location}
 use Rattle.interval.specs.declared.interval.JournalInterval.{JournalInterval}
 use Rattle.source.specs.Sets.{Ids, no-ids, leave, Map, no-keys, bind, unbind, both, at, put, none-some}
+use Rattle.source.specs.Tables.{values-unbind, no-keys-some, none-if}
 use Rattle.source.specs.Codec.{JournalEntry, JournalRange, Codec}
 use Rattle.source.specs.JournalDisk as D
 use Rattle.source.specs.JournalDisk.{ReqId, DiskOp}
@@ -17,10 +18,8 @@ use Rattle.source.specs.Limits.{Limits, SystemMeets, awaitedJournalReads, oneId
 use Rattle.source.specs.Departures.{FinishLoadingOtherPhase⁺, NoOp⁺, Awaited, DamagedJournal, AskAgain}
 use Rattle.history.specs.Ledger.{Kept, Ledger}
 use Rattle.history.specs.Relation.{keptInterval, Flight, flightOf, Phase, quiet, waits, done, Sim}
-use Rattle.history.specs.Working.{values-unbind, no-keys-some}
 use Rattle.history.specs.Commits.{none-there}
 use Rattle.history.specs.Steps.{reads-stand}
-use Rattle.history.specs.LoadsSuperblocks.{none-if}
 use Rattle.history.specs.Neat.{writtenLen, Piece, Neat}
 use Rattle.history.specs.NeatReads.{page-asked, page-answered, slot-asked, slot-answered, slot-waits, page-waits}
 use Rattle.history.specs.NeatWrites.{lone-unbind}

@@ -15,12 +15,12 @@ use Rattle.interval.specs.declared.interval.JournalInterval.{JournalInterval}
 use Rattle.interval.specs.Interval.{interval}
 use Rattle.interval.specs.Facts.{ValidJournalInterval, ContiguousJournalInterval, InCyclicRange}
 use Rattle.interval.specs.Overlap.{journalIntervalOverlap, journalCyclicIntervalOverlap}
-use Rattle.interval.specs.Meets.{meets-facts, plain-symmetric}
+use Rattle.interval.specs.Meets.{meets-facts, plain-symmetric, apart-clear, empty-clear, plain-shares}
 use Rattle.source.specs.Sets.{Map, bind, unbind, none-some, same-value, bind-here, bind-there, unbind-here, unbind-there}
+use Rattle.source.specs.Tables.{Values, values-bind}
 use Rattle.source.specs.JournalDisk.{ReqId}
 use Rattle.history.specs.Holds.{pos-add-in, behind-off, behind-apart}
-use Rattle.history.specs.Working.{Values, values-bind}
-use Rattle.history.specs.Neat.{apart-clear, empty-clear, plain-shares, Piece}
+use Rattle.history.specs.Neat.{Piece}
 
 -- no two writes in flight overlap
 abbrev pub Lone : Map JournalInterval → Type 0

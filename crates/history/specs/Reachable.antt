@@ -14,6 +14,7 @@ use Rattle.layout.specs.Journal.{JournalPosAdd}
 use Rattle.interval.specs.declared.interval.JournalInterval.{JournalInterval}
 use Rattle.superblock.specs.declared.superblock.Superblock.{Superblock}
 use Rattle.source.specs.Sets.{Map, no-keys, bind, both, at-both}
+use Rattle.source.specs.Tables.{Values, no-keys-some}
 use Rattle.source.specs.Codec.{JournalRange, Codec}
 use Rattle.source.specs.JournalDisk as D
 use Rattle.source.specs.JournalDisk.{ReqWriteJournal, DiskOp, written, written1, written2}
@@ -27,7 +28,7 @@ use Rattle.source.specs.Preserved.{inv-kept⁺}
 use Rattle.history.specs.Ledger.{Call, blocks, Kept, Ledger, begin, tell, books}
 use Rattle.history.specs.Slots.{slots-wf}
 use Rattle.history.specs.Relation.{superOf, keptInterval, Standing, Sim}
-use Rattle.history.specs.Working.{Values, no-keys-some, on-quiet}
+use Rattle.history.specs.Working.{on-quiet}
 use Rattle.history.specs.Calls.{Tied, tied-write, tied-written, unawaited-written, tied-log, tied-location, tied-committed, unawaited-committed, tied-page, tied-paged, tied-damaged, unawaited-paged, unawaited-damaged, tied-read, tied-superblock, tied-corrupt, unawaited-superblock, unawaited-corrupt, tied-finish-superblocks, tied-finish-other, tied-freeze, tied-receive, tied-add, tied-replay, tied-push, tied-pop, tied-no-op, tied-again, tied-land, tied-crash, Takes}
 use Rattle.history.specs.Steps.{sim-step}
 use Rattle.history.specs.Whole.{Trace, firstParity, init-sim}

@@ -13,6 +13,7 @@ use Rattle.superblock.specs.declared.superblock.Superblock.{Superblock}
 use Rattle.superblock.specs.Superblock.{SelectSuperblock}
 use Rattle.superblock.specs.Laws.{WFSuperblock}
 use Rattle.source.specs.Sets.{Two, both, at, same-value}
+use Rattle.source.specs.Tables.{no-keys-some}
 use Rattle.source.specs.Codec.{Codec}
 use Rattle.source.specs.JournalCache as M
 use Rattle.source.specs.JournalCache.{SuperblockUnfinished, SuperblockSuccess}
@@ -25,7 +26,6 @@ use Rattle.history.specs.Codes.{codes-none, blocks-none}
 use Rattle.history.specs.Holds.{Holds, holds-none}
 use Rattle.history.specs.Slots.{parity, parity-slot, picked, picked-is}
 use Rattle.history.specs.Relation.{Sim}
-use Rattle.history.specs.Working.{no-keys-some}
 use Rattle.history.specs.Calls.{Tied, tied-crash, Takes}
 use Rattle.history.specs.Steps.{sim-step}
 use Rattle.history.specs.Reloaded.{loads, readyBy, shows, Clean, clean-step, loads-tell}

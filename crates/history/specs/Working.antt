@@ -1,13 +1,12 @@
 -- The relation through the steps of a machine at Ready, but for its commits: add, freeze, a received location, a journal write and its
 -- answer.
 use Prim.Native.Nat.{ℕ, _+_, _≤_, _<_}
-use mathlib.Core.Bool.{Bool, true, false, cond}
+use mathlib.Core.Bool.{Bool}
 use mathlib.Core.Path.{_≡_, refl, sym, _∙_, ap, subst}
 use mathlib.Core.List.{List, [], _∷_, _++_, append-nil, append-assoc}
 use mathlib.Core.Option.{Option, none, some, Option·some-injective}
 use mathlib.Core.Logic.{_⊎_, inl, ⊎-elim}
 use native.Mathlib.Omega.{arith}
-use lib.Dec.{eqb}
 use lib.ListN.{length}
 use Rattle.laws.specs.Choice.{ruin, split-le}
 use Rattle.laws.specs.Fold.{Each, each-append}
@@ -20,7 +19,8 @@ use Rattle.interval.specs.Interval.{interval}
 use Rattle.interval.specs.Journal.{JournalBlock, JournalUpdate}
 use Rattle.superblock.specs.declared.superblock.Superblock.{Superblock}
 use Rattle.superblock.specs.Laws.{WFSuperblock}
-use Rattle.source.specs.Sets.{Ids, join, leave, Map, no-keys, bind, unbind, isKey, keys, Two, none-some}
+use Rattle.source.specs.Sets.{Ids, join, leave, Map, bind, keys, Two, none-some}
+use Rattle.source.specs.Tables.{Values, values-bind, values-unbind, keys-bind, keys-unbind, no-keys-some}
 use Rattle.source.specs.Codec.{JournalEntry, JournalRange, Codec}
 use Rattle.source.specs.JournalDisk as D
 use Rattle.source.specs.JournalDisk.{ReqId, ReqWriteSuperblockId, ReqWriteJournal, written, written1, written2}
@@ -34,42 +34,6 @@ use Rattle.history.specs.Holds.{Holds, Apart, behind-apart, wrapped-in, 
 use Rattle.history.specs.Slots.{slots-wf}
 use Rattle.history.specs.Relation.{superOf, keptInterval, OnDisk, Standing, Flight, busy, Quiet, Phase, quiet, waits, done, Live, flightOf, Sim}
 use Rattle.history.specs.Loading.{by-next, Keeps}
-
--- a set's or a map's ids, and what holds of every value, with one more and with one less
-pub keys-bind : (m : Map JournalInterval) (k : ReqId) (a : JournalInterval) → keys (bind m k a) ≡ join (keys m) k
-keys-bind m k a = λ i x. go (eqb k x) (m x) i
-  where
-    go : (b : Bool) (o : Option JournalInterval) → isKey (cond b (some a) o) ≡ cond b true (isKey o)
-    go true o = refl
-    go false o = refl
-
-pub keys-unbind : (m : Map JournalInterval) (k : ReqId) → keys (unbind m k) ≡ leave (keys m) k
-keys-unbind m k = λ i x. go (eqb k x) (m x) i
-  where
-    go : (b : Bool) (o : Option JournalInterval) → isKey (cond b none o) ≡ cond b false (isKey o)
-    go true o = refl
-    go false o = refl
-
-abbrev pub Values : (JournalInterval → Type 0) → Map JournalInterval → Type 0
-Values P m = (id : ReqId) (v : JournalInterval) → m id ≡ some v → P v
-
-pub values-bind : (P : JournalInterval → Type 0) (m : Map JournalInterval) (k : ReqId) (a : JournalInterval) → Values P m → P a → Values P (bind m k a)
-values-bind P m k a f h id v = go (eqb k id)
-  where
-    go : (b : Bool) → cond b (some a) (m id) ≡ some v → P v
-    go true e = subst P (Option·some-injective a v e) h
-    go false e = f id v e
-
-pub values-unbind : (P : JournalInterval → Type 0) (m : Map JournalInterval) (k : ReqId) → Values P m → Values P (unbind m k)
-values-unbind P m k f id v = go (eqb k id)
-  where
-    go : (b : Bool) → cond b none (m id) ≡ some v → P v
-    go true e = ruin (cc)
-    go false e = f id v e
-
--- an answer to a write that is there
-pub no-keys-some : {G : Type 0} (m : Map JournalInterval) (id : ReqId) (v : JournalInterval) → m ≡ no-keys → m id ≡ some v → G
-no-keys-some m id v e q = none-some (ap (λ (f : Map JournalInterval). f id) e) q
 
 -- no commit is in flight, by the one field or the other
 abbrev pub Idle : Flight → Type 0

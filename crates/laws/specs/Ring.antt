@@ -1,10 +1,10 @@
 -- A list as a ring of S elements, S its length. A position is below S; an offset from a position is counted going round. Every law holds
 -- for every S: facts go by index, and each conditional has its two cases. Assumes nothing.
-use Prim.Native.Nat.{ℕ, zero, suc, _+_, _-_, _*_, _≤_, _<_, min}
+use Prim.Native.Nat.{ℕ, zero, suc, _+_, _-_, _%_, _*_, _≤_, _<_, min}
 use mathlib.Core.Bool.{Bool, true, false, cond}
 use mathlib.Core.Path.{_≡_, refl, sym, _∙_, ap, subst}
 use mathlib.Core.List.{List, [], _∷_, _++_, append-assoc, append-nil}
-use native.Mathlib.Nat.{add-zero, zero-add, add-assoc, add-sub-of-le, sub-le}
+use native.Mathlib.Nat.{add-zero, zero-add, add-assoc, add-sub-of-le, sub-le, mod-eq-of-lt, mod-eq-sub-mod}
 use native.Mathlib.Omega.{arith}
 use lib.Dec.{leb, ltb, eqb}
 use borrow.Author.Tests.{lt-ltb, le-ltb, le-leb, lt-leb, ltb-true, ltb-false}
@@ -41,6 +41,13 @@ wrap-past S x h = simp (le-leb S x h)
 
 pub wrap-in : (S x : ℕ) → x < S + S → wrap S x < S
 wrap-in S x h = by-wrap (λ (w : ℕ). w < S) S x (λ l. omega arith) (λ l. l)
+
+-- it is the remainder, and this the only law that names one: proofs go by the two cases
+pub wrap-mod : (S x : ℕ) → x < S + S → wrap S x ≡ x % S
+wrap-mod S x h =
+    by-wrap (λ (w : ℕ). w ≡ x % S) S x
+    (λ m. sym (mod-eq-sub-mod m ∙ mod-eq-of-lt (omega arith)))
+    (λ m. sym (mod-eq-of-lt m))
 
 pub off-in : (S p i : ℕ) → p < S → i < S → off S p i < S
 off-in S p i h k = by-off (λ (o : ℕ). o < S) S p i (λ l. omega arith) (λ l. omega arith)

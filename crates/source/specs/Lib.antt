@@ -1,4 +1,5 @@
 pub mod Sets
+pub mod Tables
 pub mod Codec
 pub mod JournalDisk
 pub mod MachineState
