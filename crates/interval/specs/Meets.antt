@@ -1,16 +1,17 @@
 -- Laws of overlap, for every N: what disk, machine and history rely on. Overlap is symmetric; two intervals that share a block overlap;
 -- and two that overlap share a block unless one of them is empty.
-use Prim.Native.Nat.{_+_, _-_, _≤_, _<_, max}
+use Prim.Native.Nat.{ℕ, _+_, _-_, _≤_, _<_, max}
 use mathlib.Core.Bool.{Bool, true, false, cond}
 use mathlib.Core.Path.{_≡_, refl, sym, _∙_}
 use mathlib.Core.Logic.{inl, inr, ⊎-elim, _↔_}
 use native.Mathlib.Omega.{arith}
 use lib.Dec.{ltb}
 use borrow.Author.Tests.{lt-ltb, ltb-true}
-use Rattle.laws.specs.Choice.{also-left, also-right, also-both, also-comm, either-left, either-right, either-cases, by-ltb, true-false}
+use Rattle.laws.specs.Choice.{also-left, also-right, also-both, also-comm, either-left, either-right, either-cases, by-ltb, true-false, not-so}
 use Rattle.layout.specs.declared.geometry.Geometry.{Geometry}
 use Rattle.interval.specs.declared.interval.JournalInterval.{JournalInterval}
-use Rattle.interval.specs.Facts.{ValidJournalInterval}
+use Rattle.interval.specs.Interval.{interval}
+use Rattle.interval.specs.Facts.{ValidJournalInterval, ContiguousJournalInterval}
 use Rattle.interval.specs.Overlap.{journalIntervalOverlap, upToEnd, fromZero, overlapParts, journalCyclicIntervalOverlap}
 use Rattle.interval.specs.Update.{Shares}
 
@@ -109,3 +110,27 @@ module _ (g : Geometry) (a b : JournalInterval) (fa : ValidJournalInterval g a) 
   -- so overlap is exactly sharing a block, for intervals that are not empty
   pub overlap-iff : 0 < a .len → 0 < b .len → (journalCyclicIntervalOverlap g a b ≡ true) ↔ Shares g a b
   overlap-iff ha hb = (overlap-shares ha hb, shares-overlap)
+
+-- intervals without a common block do not overlap, where neither is empty
+pub apart-clear : (g : Geometry) (a b : JournalInterval) → ValidJournalInterval g a → ValidJournalInterval g b → 0 < a .len → 0 < b .len → (Shares g a b → ⊥)
+    → journalCyclicIntervalOverlap g a b ≡ false
+apart-clear g a b fa fb ha hb f = not-so (journalCyclicIntervalOverlap g a b) (λ e. f (overlap-shares g a b fa fb ha hb e))
+
+-- an empty interval does not overlap a contiguous one that it is not strictly inside of
+pub empty-clear : (g : Geometry) (a : JournalInterval) (start : ℕ) → ContiguousJournalInterval g a → start < g .blocks → (a .start < start → start < a .start + a .len → ⊥)
+    → journalCyclicIntervalOverlap g a (interval start 0) ≡ false
+unfolding journalCyclicIntervalOverlap
+empty-clear g a start fa h f =
+    not-so (journalCyclicIntervalOverlap g a (interval start 0))
+    (by-ltb (λ (t : Bool). t ≡ true → ⊥) (g .blocks) (a .start + a .len) _ _
+    (λ l e. omega arith)
+    (λ l.
+    by-ltb (λ (t : Bool). t ≡ true → ⊥) (g .blocks) (start + 0) _ _
+    (λ m e. omega arith)
+    (λ m e. let p = meets-facts a (interval start 0) e in f (omega arith) (omega arith))))
+
+-- two contiguous intervals that overlap, neither empty, share a block
+pub plain-shares : (g : Geometry) (a b : JournalInterval) → ContiguousJournalInterval g a → ContiguousJournalInterval g b → 0 < a .len → 0 < b .len → journalIntervalOverlap a b ≡ true → Shares g a b
+plain-shares g a b fa fb ha hb e =
+    let f = meets-facts a b e in
+    record { block = max (a .start) (b .start); block-in = omega arith; first = inl (omega arith); second = inl (omega arith) }

@@ -1,13 +1,14 @@
 -- Cutting a run of elements by lengths, and joining the pieces again: the entries that lengths and bytes in lent memory stand for, and
 -- the bodies of a range. Over any element. Assumes nothing.
-use Prim.Native.Nat.{ℕ, zero, suc, _+_, _-_, _≤_, _<_}
+use Prim.Native.Nat.{ℕ, zero, suc, _+_, _-_, _*_, _≤_, _<_}
 use mathlib.Core.Path.{_≡_, refl, sym, _∙_, ap}
 use mathlib.Core.List.{List, [], _∷_, _++_, append-assoc}
+use native.Mathlib.Nat.{add-comm, zero-mul, suc-mul}
 use native.Mathlib.Omega.{arith}
-use lib.ListN.{length, take, drop, getD, length-append, length-drop}
-use lib.Seq.{length-take-le, take-at, drop-at, take-add, drop-drop, take-take}
-use Rattle.laws.specs.Fold.{sum}
-use Rattle.laws.specs.Part.{drop-take}
+use lib.ListN.{length, take, drop, getD, replicate, length-append, length-drop}
+use lib.Seq.{length-take-le, take-all, take-at, drop-at, take-add, drop-drop, take-take}
+use Rattle.laws.specs.Fold.{sum, sum-replicate}
+use Rattle.laws.specs.Part.{drop-take, tab}
 
 module _ {ℓ} {A : Type ℓ} where
   -- the pieces of the given lengths, one after another from the front
@@ -114,3 +115,15 @@ module _ {ℓ} {A : Type ℓ} where
   cut-drop zero ns bs = refl
   cut-drop (suc k) [] bs = refl
   cut-drop (suc k) (n ∷ ns) bs = cut-drop k ns (drop n bs) ∙ ap (cut (drop k ns)) (drop-drop (sum (take k ns)) n bs)
+
+  -- pieces of one length: how many, joined again, and by their place
+  pub flat-even : (n k : ℕ) (bs : List A) → length bs ≡ n * k → flat (cut (replicate n k) bs) ≡ bs
+  flat-even n k bs h = flat-cut (replicate n k) bs ∙ take-all (sum (replicate n k)) bs (omega (arith, h, sum-replicate n k))
+
+  pub cut-even : (n k : ℕ) (bs : List A) → cut (replicate n k) bs ≡ tab n (λ i. take k (drop (i * k) bs))
+  unfolding cut tab
+  cut-even zero k bs = refl
+  cut-even (suc n) k bs =
+      λ i.
+      take k (drop (sym (zero-mul k) i) bs)
+      ∷ (cut-even n k (drop k bs) ∙ (λ j. tab n (λ m. take k ((drop-drop (m * k) k bs ∙ ap (λ (x : ℕ). drop x bs) (add-comm k (m * k) ∙ sym (suc-mul m k))) j)))) i

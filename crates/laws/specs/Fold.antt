@@ -4,7 +4,7 @@ use Prim.Native.Nat.{ℕ, zero, suc, _+_, _*_, _≤_, _<_}
 use mathlib.Core.Bool.{Bool, true, false}
 use mathlib.Core.Path.{_≡_, refl, sym, _∙_, ap}
 use mathlib.Core.List.{List, [], _∷_, _++_}
-use native.Mathlib.Nat.{add-zero, zero-add, add-assoc, mul-suc}
+use native.Mathlib.Nat.{add-zero, zero-add, add-assoc, add-comm, mul-suc, zero-mul, suc-mul}
 use native.Mathlib.Omega.{arith}
 use lib.Dec.{eqb}
 use borrow.Author.Tests.{eq-eqb, ne-eqb, eqb-true}
@@ -41,6 +41,12 @@ sum-append (x ∷ xs) ys = rw (sum-append xs ys) (sym (add-assoc x (sum xs) (sum
 
 pub sum-split : (n : ℕ) (xs : List ℕ) → sum (take n xs) + sum (drop n xs) ≡ sum xs
 sum-split n xs = sym (sum-append (take n xs) (drop n xs)) ∙ ap sum (take-append-drop n xs)
+
+-- one number, n times
+pub sum-replicate : (n k : ℕ) → sum (replicate n k) ≡ n * k
+unfolding sum
+sum-replicate zero k = sym (zero-mul k)
+sum-replicate (suc n) k = rw (sum-replicate n k, suc-mul n k) (add-comm k (n * k))
 
 -- a turn of the loop, and its end
 pub sum-step : (xs : List ℕ) (i : ℕ) → i < length xs → sum (drop i xs) ≡ getD xs i 0 + sum (drop (i + 1) xs)

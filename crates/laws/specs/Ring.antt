@@ -1,9 +1,9 @@
 -- Positions on a ring of S places: a position is below S, and an offset from a position is counted going round. Every law holds for every
 -- S: facts go by the two cases of each conditional. Assumes nothing.
-use Prim.Native.Nat.{ℕ, _+_, _-_, _*_, _≤_, _<_}
+use Prim.Native.Nat.{ℕ, _+_, _-_, _%_, _*_, _≤_, _<_}
 use mathlib.Core.Bool.{cond}
-use mathlib.Core.Path.{_≡_, refl, ap}
-use native.Mathlib.Nat.{add-assoc}
+use mathlib.Core.Path.{_≡_, refl, sym, _∙_, ap}
+use native.Mathlib.Nat.{add-assoc, mod-eq-of-lt, mod-eq-sub-mod}
 use native.Mathlib.Omega.{arith}
 use lib.Dec.{leb}
 use borrow.Author.Tests.{le-leb, lt-leb}
@@ -36,6 +36,13 @@ wrap-past S x h = simp (le-leb S x h)
 
 pub wrap-in : (S x : ℕ) → x < S + S → wrap S x < S
 wrap-in S x h = by-wrap (λ (w : ℕ). w < S) S x (λ l. omega arith) (λ l. l)
+
+-- it is the remainder, and this the only law that names one: proofs go by the two cases
+pub wrap-mod : (S x : ℕ) → x < S + S → wrap S x ≡ x % S
+wrap-mod S x h =
+    by-wrap (λ (w : ℕ). w ≡ x % S) S x
+    (λ m. sym (mod-eq-sub-mod m ∙ mod-eq-of-lt (omega arith)))
+    (λ m. sym (mod-eq-of-lt m))
 
 pub off-in : (S p i : ℕ) → p < S → i < S → off S p i < S
 off-in S p i h k = by-off (λ (o : ℕ). o < S) S p i (λ l. omega arith) (λ l. omega arith)

@@ -1,4 +1,5 @@
 pub mod Sets
+pub mod Tables
 pub mod Codec
 pub mod JournalDisk
 pub mod MachineState
@@ -9,3 +10,6 @@ pub mod Departures
 pub mod Unique
 pub mod Answers
 pub mod Open
+pub mod PreservedReady
+pub mod Preserved
+pub mod Effects

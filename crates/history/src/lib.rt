@@ -1,0 +1,1 @@
+// No code: the ledger, and what whole histories show of it, stand in specs/.
