@@ -8,7 +8,7 @@ use mathlib.Core.Logic.{inl, inr, ⊎-elim}
 use native.Mathlib.Omega.{arith}
 use lib.ListN.{length, drop, length-append, length-map}
 use lib.Seq.{drop-at, ext-getD}
-use Rattle.laws.specs.Ring.{wrap, off, by-wrap, wrap-in, wrap-add, wrap-off, off-wrap, wrap-mod}
+use Rattle.laws.specs.Ring.{wrap, off, wrap-in, wrap-mod, wrap-add, wrap-off, off-wrap}
 use Rattle.layout.specs.declared.geometry.Geometry.{Geometry}
 use Rattle.layout.specs.Journal.{JournalPosAdd}
 use Rattle.layout.specs.Laws.{pos-add-wrap}
@@ -29,9 +29,6 @@ pos-add-mod g start k h l = pos-add-wrap g start k ∙ wrap-mod (g .blocks) (sta
 
 pub pos-add-in : (g : Geometry) (start k : ℕ) → start < g .blocks → k ≤ g .blocks → JournalPosAdd g start k < g .blocks
 pos-add-in g start k h l = rw (pos-add-wrap g start k) (wrap-in (g .blocks) (start + k) (omega arith))
-
-pub pos-add-none : (g : Geometry) (start : ℕ) → start < g .blocks → JournalPosAdd g start 0 ≡ start
-pos-add-none g start h = pos-add-wrap g start 0 ∙ by-wrap (λ (w : ℕ). w ≡ start) (g .blocks) (start + 0) (λ m. absurd (omega arith)) (λ m. omega arith)
 
 -- the blocks bs, from start on
 abbrev pub Holds : Geometry → List (Option JournalBlock) → ℕ → JournalRange → Type 0

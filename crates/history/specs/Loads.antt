@@ -183,9 +183,6 @@ module _ (g : Geometry) (C : Codec) (L : Limits) (room : Room L) (slots : Two (O
 -- from a crash to Ready
 module _ (g : Geometry) (C : Codec) (L : Limits) (room : Room L) (p : ℕ) (slots : Two (Option Superblock)) (j : List (Option JournalBlock)) (l : Ledger)
     (z : Sim g C p (M.Variables.LoadingSuperblock M.initial) (resting slots j) l) (sized : Sized j) where
-  v : Superblock
-  v = superOf C (l .kept)
-
   selected : Slots g slots (z .slot) (superOf C (l .kept))
   selected = z .disk .selected
 

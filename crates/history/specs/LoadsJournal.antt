@@ -35,9 +35,6 @@ use Rattle.history.specs.LoadsSuperblocks.{reading, resting, Sized, Room
 
 -- the pieces of a superblock's interval
 module _ (g : Geometry) (j : List (Option JournalBlock)) (v : Superblock) (wf : WFSuperblock g v) (size : length j ≡ g .blocks) where
-  spanned : JournalInterval
-  spanned = interval (v .journalStart) (v .journalLen)
-
   spanned-valid : ValidJournalInterval g (interval (v .journalStart) (v .journalLen))
   spanned-valid = record { start-in = wf .start-in; len-in = wf .len-in }
 

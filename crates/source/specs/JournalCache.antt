@@ -118,6 +118,13 @@ pub record WriteBackJournalRespClauses (s : ReadyVariables) (s′ : Variables) (
 abbrev pub WriteBackJournalResp : Variables → Variables → DiskOp → Type 0
 WriteBackJournalResp s s′ dop = isReady s (λ s. WriteBackJournalRespClauses s s′ dop)
 
+-- two clauses that both commits have: which slot is written, and that no journal write is outstanding
+abbrev pub commitSlot : ReadyVariables → Bool
+commitSlot s = not (s .whichSuperblock)
+
+abbrev pub NoneOutstanding : ReadyVariables → Type 0
+NoneOutstanding s = s .outstandingJournalWrites ≡ no-ids
+
 -- `newSuperblock` of the next predicate
 abbrev pub advancedLog : ReadyVariables → Superblock
 advancedLog s =
@@ -134,9 +141,9 @@ pub record WriteBackSuperblockReq-AdvanceLogClauses (g : Geometry) (s : ReadyVar
   pub req : ReqWriteSuperblock
   pub op : dop ≡ ReqWriteSuperblockOp id which req
   pub no-commit : s .commitStatus ≡ CommitNone
-  pub all-written : s .outstandingJournalWrites ≡ no-ids
+  pub all-written : NoneOutstanding s
   pub none-frozen : s .inMemoryJournalFrozen ≡ []
-  pub which-is : which ≡ not (s .whichSuperblock)
+  pub which-is : which ≡ commitSlot s
   pub written-in : s .writtenJournalLen ≤ NumJournalBlocks g
   pub superblock-is : req .superblock ≡ advancedLog s
   pub next : s′ ≡ Ready
@@ -165,9 +172,9 @@ pub record WriteBackSuperblockReq-AdvanceLocationClauses (g : Geometry) (s : Rea
   pub loc : Location
   pub received : s .frozenLoc ≡ some loc
   pub no-commit : s .commitStatus ≡ CommitNone
-  pub all-written : s .outstandingJournalWrites ≡ no-ids
+  pub all-written : NoneOutstanding s
   pub none-frozen : s .inMemoryJournalFrozen ≡ []
-  pub which-is : which ≡ not (s .whichSuperblock)
+  pub which-is : which ≡ commitSlot s
   pub start-in : s .superblock .journalStart < NumJournalBlocks g
   pub position-in : s .frozenJournalPosition ≤ s .writtenJournalLen
   pub written-in : s .writtenJournalLen ≤ NumJournalBlocks g
