@@ -1,7 +1,7 @@
 -- Laws of the superblock: well-formedness as facts, the counter's successor as a sum that wraps, and which slot is selected.
 use Prim.Native.Nat.{ℕ, _+_, _^_, _%_, _≤_, _<_}
-use mathlib.Core.Bool.{true}
-use mathlib.Core.Path.{_≡_}
+use mathlib.Core.Bool.{true, false}
+use mathlib.Core.Path.{_≡_, refl}
 use native.Mathlib.Omega.{arith}
 use borrow.Author.Tests.{leb-true, le-leb, ltb-true, lt-ltb, eq-eqb, ne-eqb}
 use Rattle.laws.specs.Choice.{also-left, also-right, also-both, by-eqb}
@@ -42,6 +42,15 @@ increment-wraps i h =
 
 pub increment-in : (i : ℕ) → i < 2 ^ 64 → IncrementSuperblockCounter i < 2 ^ 64
 increment-in i h = let e = increment-wraps i h in omega arith
+
+-- after the largest counter comes 0, and a counter is not followed by one that is two on
+pub largest-then-zero : increments1 18446744073709551615 0 ≡ true
+unfolding increments1 IncrementSuperblockCounter
+largest-then-zero = refl
+
+pub not-two-on : increments1 7 9 ≡ false
+unfolding increments1 IncrementSuperblockCounter
+not-two-on = refl
 
 -- the second slot is selected exactly where its counter follows the first's
 module _ (a b : Superblock) where
