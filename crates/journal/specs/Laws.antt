@@ -17,9 +17,9 @@ use Rattle.laws.specs.Around.{around, around-parts, spliceAround}
 use Rattle.layout.specs.declared.geometry.Geometry.{Geometry}
 use Rattle.layout.specs.Geometry.{ValidGeometry, geometry-asked}
 use Rattle.interval.specs.declared.interval.JournalInterval.{JournalInterval}
-use Rattle.interval.specs.Facts.{ValidJournalInterval, interval-facts}
+use Rattle.interval.specs.Facts.{ValidJournalInterval, interval-asked}
 use Rattle.journal.specs.declared.journal.Copied.the-variants as copied
-use Rattle.journal.specs.Memory.{isMark, isOne, updateBytes, updateMarks, copiedOf, askBlocks, askMarks, askJournal, askIn, askNew, askSliceBytes, askSliceMarks, askFull, askUpdate}
+use Rattle.journal.specs.Memory.{isMark, isOne, updateBytes, updateMarks, copiedOf, askBlocks, askMarks, askJournal, askNew, askSliceBytes, askSliceMarks, askFull, askUpdate}
 
 -- n elements from `at` on in a ring of S, and room for m
 pub record Around (S at n m : ℕ) : Type 0 where
@@ -70,12 +70,6 @@ every-around p src at n first k a b h ef ek ea eb =
     ∙ ap (every p) (sym (around-parts src at n (omega arith) (h .n-in)))
 
 -- what a yes tells
-one : _≡_ {A = ℕ} 1 0 → ⊥
-one z = omega arith
-
-four : _≡_ {A = ℕ} 4 0 → ⊥
-four z = omega arith
-
 pub record Blocks (g : Geometry) (blocks : List ℕ) : Type 0 where
   pub geometry : ValidGeometry g
   pub size : length blocks ≡ g .blocks * 4096
@@ -85,7 +79,7 @@ unfolding askBlocks
 blocks-asked g blocks e =
     record {
       geometry = geometry-asked g (andThen-left _ _ e);
-      size = eqb-true (length blocks) (g .blocks * 4096) (ask-yes 1 _ one (andThen-right _ _ e));
+      size = eqb-true (length blocks) (g .blocks * 4096) (ask-yes 1 _ (omega arith) (andThen-right _ _ e));
     }
 
 pub record Marks (g : Geometry) (marks : List ℕ) : Type 0 where
@@ -96,16 +90,12 @@ pub record Marks (g : Geometry) (marks : List ℕ) : Type 0 where
 pub marks-asked : (g : Geometry) (marks : List ℕ) → askMarks g marks ≡ 0 → Marks g marks
 unfolding askMarks
 marks-asked g marks e =
-    let t = ask-yes 1 _ one (andThen-right _ _ e) in
+    let t = ask-yes 1 _ (omega arith) (andThen-right _ _ e) in
     record {
       geometry = geometry-asked g (andThen-left _ _ e);
       size = eqb-true (length marks) (g .blocks) (also-left _ _ t);
       each = also-right _ _ t;
     }
-
-pub in-asked : (g : Geometry) (v : JournalInterval) → askIn g v ≡ 0 → ValidJournalInterval g v
-unfolding askIn
-in-asked g v e = interval-facts g v (ask-yes 4 _ four e)
 
 pub record SliceBytes (g : Geometry) (v : JournalInterval) (blocks out : List ℕ) : Type 0 where
   pub from : Blocks g blocks
@@ -119,7 +109,7 @@ slice-bytes-asked g v blocks out e =
     record {
       from = blocks-asked g blocks (andThen-left _ _ e);
       to = blocks-asked g out (andThen-left _ _ r) .size;
-      valid = in-asked g v (andThen-right _ _ r);
+      valid = interval-asked g v (andThen-right _ _ r) .valid;
     }
 
 pub record SliceMarks (g : Geometry) (v : JournalInterval) (marks out : List ℕ) : Type 0 where
@@ -133,8 +123,8 @@ slice-marks-asked g v marks out e =
     let r = andThen-right _ _ e in
     record {
       from = marks-asked g marks (andThen-left _ _ e);
-      to = eqb-true (length out) (g .blocks) (ask-yes 1 _ one (andThen-left _ _ r));
-      valid = in-asked g v (andThen-right _ _ r);
+      to = eqb-true (length out) (g .blocks) (ask-yes 1 _ (omega arith) (andThen-left _ _ r));
+      valid = interval-asked g v (andThen-right _ _ r) .valid;
     }
 
 pub record Full (g : Geometry) (v : JournalInterval) (marks : List ℕ) : Type 0 where
@@ -143,7 +133,7 @@ pub record Full (g : Geometry) (v : JournalInterval) (marks : List ℕ) : Type 0
 
 pub full-asked : (g : Geometry) (v : JournalInterval) (marks : List ℕ) → askFull g v marks ≡ 0 → Full g v marks
 unfolding askFull
-full-asked g v marks e = record { from = marks-asked g marks (andThen-left _ _ e); valid = in-asked g v (andThen-right _ _ e) }
+full-asked g v marks e = record { from = marks-asked g marks (andThen-left _ _ e); valid = interval-asked g v (andThen-right _ _ e) .valid }
 
 pub record Update (g : Geometry) (v : JournalInterval) (new blocks marks : List ℕ) : Type 0 where
   pub blocks-size : Blocks g blocks
@@ -159,8 +149,8 @@ update-asked g v new blocks marks e =
     record {
       blocks-size = blocks-asked g blocks (andThen-left _ _ j);
       marks-size = marks-asked g marks (andThen-right _ _ j);
-      valid = in-asked g v (andThen-left _ _ r);
-      new-size = eqb-true (length new) (v .len * 4096) (ask-yes 4 _ four (andThen-right _ _ r));
+      valid = interval-asked g v (andThen-left _ _ r) .valid;
+      new-size = eqb-true (length new) (v .len * 4096) (ask-yes 4 _ (omega arith) (andThen-right _ _ r));
     }
 
 -- a mark, told by its number

@@ -11,7 +11,7 @@ use Rattle.laws.specs.Around.{around, spliceAround}
 use Rattle.layout.specs.declared.geometry.Geometry.{Geometry}
 use Rattle.layout.specs.Geometry.{NumJournalBlocks, askGeometry}
 use Rattle.interval.specs.declared.interval.JournalInterval.{JournalInterval}
-use Rattle.interval.specs.Interval.{validJournalInterval}
+use Rattle.interval.specs.Interval.{askInterval}
 use Rattle.journal.specs.declared.journal.Copied.{Copied}
 use Rattle.journal.specs.declared.journal.Copied.the-variants as copied
 
@@ -50,25 +50,22 @@ askMarks g marks = andThen (askGeometry g) (ask 1 (also (eqb (length marks) (Num
 unfoldable pub askJournal : Geometry → List ℕ → List ℕ → ℕ
 askJournal g blocks marks = andThen (askBlocks g blocks) (askMarks g marks)
 
--- question 4, of an interval, and of new blocks for it
-unfoldable pub askIn : Geometry → JournalInterval → ℕ
-askIn g v = ask 4 (validJournalInterval g v)
-
+-- question 4, of new blocks for an interval
 unfoldable pub askNew : JournalInterval → List ℕ → ℕ
 askNew v new = ask 4 (eqb (length new) (v .len * 4096))
 
 -- the questions of each function
 unfoldable pub askSliceBytes : Geometry → JournalInterval → List ℕ → List ℕ → ℕ
-askSliceBytes g v blocks out = andThen (askBlocks g blocks) (andThen (askBlocks g out) (askIn g v))
+askSliceBytes g v blocks out = andThen (askBlocks g blocks) (andThen (askBlocks g out) (askInterval g v))
 
 unfoldable pub askSliceMarks : Geometry → JournalInterval → List ℕ → List ℕ → ℕ
-askSliceMarks g v marks out = andThen (askMarks g marks) (andThen (ask 1 (eqb (length out) (NumJournalBlocks g))) (askIn g v))
+askSliceMarks g v marks out = andThen (askMarks g marks) (andThen (ask 1 (eqb (length out) (NumJournalBlocks g))) (askInterval g v))
 
 unfoldable pub askFull : Geometry → JournalInterval → List ℕ → ℕ
-askFull g v marks = andThen (askMarks g marks) (askIn g v)
+askFull g v marks = andThen (askMarks g marks) (askInterval g v)
 
 unfoldable pub askUpdate : Geometry → JournalInterval → List ℕ → List ℕ → List ℕ → ℕ
-askUpdate g v new blocks marks = andThen (askJournal g blocks marks) (andThen (askIn g v) (askNew v new))
+askUpdate g v new blocks marks = andThen (askJournal g blocks marks) (andThen (askInterval g v) (askNew v new))
 
 -- the answer: how many blocks, or the refusal number
 abbrev pub copiedOf : ℕ → ℕ → Copied

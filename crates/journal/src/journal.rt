@@ -10,9 +10,8 @@ ghost use Rattle.laws.specs.Fold.{every};
 ghost use Rattle.laws.specs.Splice.{splice};
 ghost use Rattle.laws.specs.Around.{around};
 ghost use Rattle.layout.specs.Answer.{decided};
-ghost use Rattle.interval.specs.Interval.{validJournalInterval};
 ghost use Rattle.journal.specs.Laws.{Around};
-ghost use Rattle.journal.specs.Memory.{isMark, isOne, sliceBytes, sliceMarks, updateBytes, updateMarks, fullMarks, askBlocks, askMarks, askJournal, askIn, askNew, askSliceBytes, askSliceMarks, askFull, askUpdate, copiedOf};
+ghost use Rattle.journal.specs.Memory.{isMark, isOne, sliceBytes, sliceMarks, updateBytes, updateMarks, fullMarks, askBlocks, askMarks, askJournal, askNew, askSliceBytes, askSliceMarks, askFull, askUpdate, copiedOf};
 
 // How many blocks were copied or written, or the number of the question that was answered no.
 pub enum Copied {
@@ -102,19 +101,6 @@ fn copy_around(src: &[u8], at: usize, n: usize, out: &mut [u8])
     runs::write_bytes(&src[0..n - first], out, first);
 }
 
-// Question 4, of an interval.
-fn ask_in(g: Geometry, v: JournalInterval) -> u8
-    ensures { λ r. ⌜ r ≡ askIn g v ⌝ }
-{
-    if v.start < g.blocks {
-        if v.len <= g.blocks {
-            return 0;
-        }
-        return 4;
-    }
-    4
-}
-
 fn ask_slice_bytes(g: Geometry, v: JournalInterval, blocks: &[u8], out: &[u8]) -> u8
     ensures { λ r. ⌜ r ≡ askSliceBytes g v (now (blocks .entry)) (now (out .entry)) ⌝ }
 {
@@ -126,7 +112,7 @@ fn ask_slice_bytes(g: Geometry, v: JournalInterval, blocks: &[u8], out: &[u8]) -
     if p != 0 {
         return p;
     }
-    ask_in(g, v)
+    v.ask(g)
 }
 
 fn ask_slice_marks(g: Geometry, v: JournalInterval, marks: &[u8], out: &[u8]) -> u8
@@ -137,7 +123,7 @@ fn ask_slice_marks(g: Geometry, v: JournalInterval, marks: &[u8], out: &[u8]) ->
         return q;
     }
     if out.len() as u64 == g.blocks {
-        return ask_in(g, v);
+        return v.ask(g);
     }
     1
 }
@@ -149,7 +135,7 @@ fn ask_full(g: Geometry, v: JournalInterval, marks: &[u8]) -> u8
     if q != 0 {
         return q;
     }
-    ask_in(g, v)
+    v.ask(g)
 }
 
 fn ask_update(g: Geometry, v: JournalInterval, new: &[u8], blocks: &[u8], marks: &[u8]) -> u8
@@ -159,7 +145,7 @@ fn ask_update(g: Geometry, v: JournalInterval, new: &[u8], blocks: &[u8], marks:
     if q != 0 {
         return q;
     }
-    let p = ask_in(g, v);
+    let p = v.ask(g);
     if p != 0 {
         return p;
     }

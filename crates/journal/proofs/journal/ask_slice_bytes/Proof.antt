@@ -1,6 +1,6 @@
 use borrow.Author.Needs.{needs}
 use Rattle.journal.specs.Memory.{askSliceBytes}
-use Rattle.laws.specs.Choice.{tests, andThen}
+use Rattle.laws.specs.Choice.{tests, ask, andThen}
 use Rattle.journal.proofs.journal.ask_slice_bytes.Statement.{statement}
 use Rattle.journal.proofs.journal.ask_slice_bytes.Tie as tie
 
@@ -18,20 +18,14 @@ returns-2 : tie.Need-returns-2
 unfolding askSliceBytes andThen
 returns-2 c = search (tests, ← c .before .ask-blocks2 .ensures, ← c .before .before .before .ask-blocks .ensures)
 
-ask-in-requires : tie.Need-ask-in-requires
-ask-in-requires c κs = search needs
+ask-requires : tie.Need-ask-requires
+ask-requires c κs = search needs
 
 returns-3 : tie.Need-returns-3
 unfolding askSliceBytes andThen
-returns-3 c = search (tests, ← c .ask-in .ensures, ← c .before .before .ask-blocks2 .ensures, ← c .before .before .before .before .ask-blocks .ensures)
+returns-3 c = search (tests, ← c .ask .ensures, ← c .before .before .ask-blocks2 .ensures, ← c .before .before .before .before .ask-blocks .ensures)
 
 pub ask-slice-bytes-spec : {M : Type 1} → statement M
 ask-slice-bytes-spec =
     tie.close
-    (tie.spec
-    ask-blocks-requires
-    returns
-    ask-blocks-requires-2
-    returns-2
-    ask-in-requires
-    returns-3)
+    (tie.spec ask-blocks-requires returns ask-blocks-requires-2 returns-2 ask-requires returns-3)

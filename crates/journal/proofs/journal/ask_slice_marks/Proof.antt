@@ -11,12 +11,12 @@ returns : tie.Need-returns
 unfolding askSliceMarks andThen ask
 returns c = search (tests, ← c .before .ask-marks .ensures)
 
-ask-in-requires : tie.Need-ask-in-requires
-ask-in-requires c κs = search needs
+ask-requires : tie.Need-ask-requires
+ask-requires c κs = search needs
 
 returns-2 : tie.Need-returns-2
 unfolding askSliceMarks andThen ask
-returns-2 c = search (tests, ← c .ask-in .ensures, ← c .before .before .before .before .ask-marks .ensures)
+returns-2 c = search (tests, ← c .ask .ensures, ← c .before .before .before .before .ask-marks .ensures)
 
 returns-3 : tie.Need-returns-3
 unfolding askSliceMarks andThen ask
@@ -24,4 +24,4 @@ returns-3 c = search (tests, ← c .before .before .before .ask-marks .ensures)
 
 pub ask-slice-marks-spec : {M : Type 1} → statement M
 ask-slice-marks-spec =
-    tie.close (tie.spec ask-marks-requires returns ask-in-requires returns-2 returns-3)
+    tie.close (tie.spec ask-marks-requires returns ask-requires returns-2 returns-3)

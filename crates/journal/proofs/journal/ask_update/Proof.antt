@@ -1,9 +1,9 @@
 use borrow.Author.Needs.{needs}
 use mathlib.Core.Path.{sym, _∙_}
 use native.Mathlib.Omega.{arith}
-use Rattle.journal.specs.Laws.{in-asked, blocks-asked}
-use Rattle.journal.specs.Memory.{askJournal, askUpdate}
-use Rattle.laws.specs.Choice.{andThen-left, tests, andThen}
+use Rattle.interval.specs.Facts.{interval-asked}
+use Rattle.journal.specs.Memory.{askUpdate}
+use Rattle.laws.specs.Choice.{tests, ask, andThen}
 use Rattle.journal.proofs.journal.ask_update.Statement.{statement}
 use Rattle.journal.proofs.journal.ask_update.Tie as tie
 
@@ -14,25 +14,21 @@ returns : tie.Need-returns
 unfolding askUpdate andThen
 returns c = search (tests, ← c .before .ask-journal .ensures)
 
-ask-in-requires : tie.Need-ask-in-requires
-ask-in-requires c κs = search needs
+ask-requires : tie.Need-ask-requires
+ask-requires c κs = search needs
 
 returns-2 : tie.Need-returns-2
 unfolding askUpdate andThen
-returns-2 c = search (tests, ← c .before .ask-in .ensures, ← c .before .before .before .ask-journal .ensures)
+returns-2 c = search (tests, ← c .before .ask .ensures, ← c .before .before .before .ask-journal .ensures)
 
 ask-new-requires : tie.Need-ask-new-requires
-unfolding askJournal
-ask-new-requires c κs =
-    let v = in-asked _ _ (sym (c .before .ask-in .ensures) ∙ c .if2 .left) in
-    let b = blocks-asked _ _ (andThen-left _ _ (sym (c .before .before .before .ask-journal .ensures) ∙ c .before .before .if1 .left)) in
-    omega arith
+ask-new-requires c κs = let v = interval-asked _ _ (sym (c .before .ask .ensures) ∙ c .if2 .left) in omega arith
 
 returns-3 : tie.Need-returns-3
 unfolding askUpdate andThen
-returns-3 c = search (tests, ← c .ask-new .ensures, ← c .before .before .ask-in .ensures, ← c .before .before .before .before .ask-journal .ensures)
+returns-3 c = search (tests, ← c .ask-new .ensures, ← c .before .before .ask .ensures, ← c .before .before .before .before .ask-journal .ensures)
 
 pub ask-update-spec : {M : Type 1} → statement M
 ask-update-spec =
     tie.close
-    (tie.spec ask-journal-requires returns ask-in-requires returns-2 ask-new-requires returns-3)
+    (tie.spec ask-journal-requires returns ask-requires returns-2 ask-new-requires returns-3)
