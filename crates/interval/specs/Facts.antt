@@ -60,9 +60,6 @@ module _ (g : Geometry) (v : JournalInterval) where
       f
 
 -- what a yes to questions 1 and 4 tells
-four : _≡_ {A = ℕ} 4 0 → ⊥
-four z = omega arith
-
 pub record Asked (g : Geometry) (v : JournalInterval) : Type 0 where
   pub geometry : ValidGeometry g
   pub valid : ValidJournalInterval g v
@@ -72,7 +69,7 @@ unfolding askInterval
 interval-asked g v e =
     record {
       geometry = geometry-asked g (andThen-left _ _ e);
-      valid = interval-facts g v (ask-yes 4 _ four (andThen-right _ _ e));
+      valid = interval-facts g v (ask-yes 4 _ (omega arith) (andThen-right _ _ e));
     }
 
 pub record AskedBoth (g : Geometry) (a b : JournalInterval) : Type 0 where
@@ -87,13 +84,13 @@ intervals-asked g a b e =
     record {
       geometry = v .geometry;
       first = v .valid;
-      second = interval-facts g b (ask-yes 4 _ four (andThen-right _ _ e));
+      second = interval-facts g b (ask-yes 4 _ (omega arith) (andThen-right _ _ e));
     }
 
 pub contiguous-asked : (g : Geometry) (a b : JournalInterval) → askContiguous g a b ≡ 0 → AskedBoth g a b
 unfolding askContiguous
 contiguous-asked g a b e =
-    let t = ask-yes 4 _ four (andThen-right _ _ e) in
+    let t = ask-yes 4 _ (omega arith) (andThen-right _ _ e) in
     record {
       geometry = geometry-asked g (andThen-left _ _ e);
       first = contiguous-facts g a (also-left _ _ t) .valid;
@@ -116,5 +113,5 @@ block-asked g i v e =
     record {
       geometry = u .geometry;
       valid = u .valid;
-      block-in = ltb-true i (g .blocks) (ask-yes 4 _ four (andThen-right _ _ e));
+      block-in = ltb-true i (g .blocks) (ask-yes 4 _ (omega arith) (andThen-right _ _ e));
     }

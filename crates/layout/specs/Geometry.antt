@@ -75,7 +75,7 @@ facts-geometry g v =
 -- question 1 was answered yes exactly for a valid geometry
 pub geometry-asked : (g : Geometry) → askGeometry g ≡ 0 → ValidGeometry g
 unfolding askGeometry
-geometry-asked g e = geometry-facts g (ask-yes 1 (geometryOk g) (λ (z : _≡_ {A = ℕ} 1 0). omega arith) e)
+geometry-asked g e = geometry-facts g (ask-yes 1 (geometryOk g) (omega arith) e)
 
 pub asked-geometry : (g : Geometry) → ValidGeometry g → askGeometry g ≡ 0
 unfolding askGeometry

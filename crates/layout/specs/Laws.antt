@@ -143,9 +143,6 @@ unfolding JournalPosAdd wrap
 pos-add-wrap g start span = refl
 
 -- what a yes to questions 1 and 4 tells
-four : _≡_ {A = ℕ} 4 0 → ⊥
-four z = omega arith
-
 pub record Circular (g : Geometry) (start len : ℕ) : Type 0 where
   pub geometry : ValidGeometry g
   pub start-in : start < g .blocks
@@ -154,7 +151,7 @@ pub record Circular (g : Geometry) (start len : ℕ) : Type 0 where
 pub circular-asked : (g : Geometry) (start len : ℕ) → askCircular g start len ≡ 0 → Circular g start len
 unfolding askCircular
 circular-asked g start len e =
-    let t = ask-yes 4 _ four (andThen-right _ _ e) in
+    let t = ask-yes 4 _ (omega arith) (andThen-right _ _ e) in
     record {
       geometry = geometry-asked g (andThen-left _ _ e);
       start-in = ltb-true start (g .blocks) (also-left _ _ t);
@@ -175,7 +172,7 @@ pub record Straight (g : Geometry) (start len : ℕ) : Type 0 where
 pub range-asked : (g : Geometry) (start len : ℕ) → askRange g start len ≡ 0 → Straight g start len
 unfolding askRange
 range-asked g start len e =
-    let t = ask-yes 4 _ four (andThen-right _ _ e) in
+    let t = ask-yes 4 _ (omega arith) (andThen-right _ _ e) in
     record {
       geometry = geometry-asked g (andThen-left _ _ e);
       start-in = ltb-true start (g .blocks) (also-left _ _ t);
@@ -191,9 +188,9 @@ unfolding askPoint
 point-asked g point e =
     record {
       geometry = geometry-asked g (andThen-left _ _ e);
-      point-in = leb-true point (g .blocks) (ask-yes 4 _ four (andThen-right _ _ e));
+      point-in = leb-true point (g .blocks) (ask-yes 4 _ (omega arith) (andThen-right _ _ e));
     }
 
 pub journal-location-asked : (g : Geometry) (loc : Location) → askJournalLocation g loc ≡ 0 → ValidJournalLocation g loc
 unfolding askJournalLocation
-journal-location-asked g loc e = journal-location-facts g loc (ask-yes 4 _ four (andThen-right _ _ e))
+journal-location-asked g loc e = journal-location-facts g loc (ask-yes 4 _ (omega arith) (andThen-right _ _ e))

@@ -99,7 +99,7 @@ Given e = Entries MostGiven (length (e .bytes)) (e .lens) (e .count)
 
 pub given-asked : (e : Memory) → askGiven e ≡ 0 → Given e
 unfolding askGiven
-given-asked e q = entries-facts _ _ _ _ (ask-yes 4 _ (λ (z : _≡_ {A = ℕ} 4 0). omega arith) q)
+given-asked e q = entries-facts _ _ _ _ (ask-yes 4 _ (omega arith) q)
 
 pub asked-given : (e : Memory) → Given e → askGiven e ≡ 0
 unfolding askGiven

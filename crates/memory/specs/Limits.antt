@@ -42,7 +42,7 @@ pub record PendingLent (l : Limits) (bytes lens : ℕ) : Type 0 where
 pub lent-asked : (l : Limits) (bytes lens : ℕ) → askPendingLent l bytes lens ≡ 0 → PendingLent l bytes lens
 unfolding askPendingLent pendingLent
 lent-asked l bytes lens q =
-    let e = ask-yes 1 (pendingLent l bytes lens) (λ (z : _≡_ {A = ℕ} 1 0). omega arith) q in
+    let e = ask-yes 1 (pendingLent l bytes lens) (omega arith) q in
     let e1 = also-right _ _ e in
     let e2 = also-right _ _ e1 in
     record {
@@ -77,5 +77,5 @@ module _ (l : Limits) (c : Count) where
   pub room-asked : askRoom l c ≡ 0 → (c .entries ≤ l .entries) × (c .bytes ≤ l .bytes)
   unfolding askRoom
   room-asked q =
-      let fits = ask-yes 8 _ (λ (z : _≡_ {A = ℕ} 8 0). omega arith) q in
+      let fits = ask-yes 8 _ (omega arith) q in
       (leb-true (c .entries) (l .entries) (also-left _ _ fits), leb-true (c .bytes) (l .bytes) (also-right _ _ fits))

@@ -28,7 +28,7 @@ unfolding askPending
 pending-asked l m q =
     record {
       lent = lent-asked l (length (m .bytes)) (length (m .lens)) (andThen-left _ _ q);
-      held = entries-facts _ _ _ _ (ask-yes 2 _ (λ (z : _≡_ {A = ℕ} 2 0). omega arith) (andThen-right _ _ q));
+      held = entries-facts _ _ _ _ (ask-yes 2 _ (omega arith) (andThen-right _ _ q));
     }
 
 pub asked-pending : (l : Limits) (m : Memory) → Pending l m → askPending l m ≡ 0
@@ -155,7 +155,7 @@ module _ (l : Limits) (m : Memory) (k : ℕ) where
 
   pub front-few : askTakeFront l m k ≡ 0 → k ≤ m .count
   unfolding askTakeFront
-  front-few q = leb-true k (m .count) (ask-yes 4 _ (λ (z : _≡_ {A = ℕ} 4 0). omega arith) (andThen-right _ _ q))
+  front-few q = leb-true k (m .count) (ask-yes 4 _ (omega arith) (andThen-right _ _ q))
 
   pub asked-front : askPending l m ≡ 0 → k ≤ m .count → askTakeFront l m k ≡ 0
   unfolding askTakeFront

@@ -108,7 +108,7 @@ next-asked blocks m taken e q =
     r = replay-asked blocks m taken (andThen-left _ _ q)
 
     t : nextOfReplay m taken e ≡ true
-    t = ask-yes 6 _ (λ (z : _≡_ {A = ℕ} 6 0). omega arith) (andThen-right _ _ (andThen-right _ _ q))
+    t = ask-yes 6 _ (omega arith) (andThen-right _ _ (andThen-right _ _ q))
 
     new : bytesOf e ≡ total (drop (taken .entries) (m .lens)) (e .count)
     new = ap sum (same-is _ _ (also-left _ _ (also-right _ _ t)))
@@ -120,7 +120,7 @@ unfolding askNext
 next-accepted blocks m taken e q =
     let q4 = andThen-right _ _ q in
     next-splits m taken e (compared blocks m taken e (andThen-left _ _ q) (andThen-left _ _ q4))
-    (ask-yes 6 _ (λ (z : _≡_ {A = ℕ} 6 0). omega arith) (andThen-right _ _ q4))
+    (ask-yes 6 _ (omega arith) (andThen-right _ _ q4))
 
 pub accepted-next : (blocks : ℕ) (m : Memory) (taken : Count) (e : Memory) (rest : List Entry) → askReplay blocks m taken ≡ 0 → askGiven e ≡ 0
     → drop (taken .entries) (entriesOf m) ≡ entriesOf e ++ rest → askNext blocks m taken e ≡ 0

@@ -22,7 +22,7 @@ use Rattle.memory.specs.PendingLaws.{total-front}
 pub replay-lent-asked : (blocks bytes lens : ℕ) → askReplayLent blocks bytes lens ≡ 0 → ReplayLent blocks bytes lens
 unfolding askReplayLent replayLent
 replay-lent-asked blocks bytes lens q =
-    let e = ask-yes 1 (replayLent blocks bytes lens) (λ (z : _≡_ {A = ℕ} 1 0). omega arith) q in
+    let e = ask-yes 1 (replayLent blocks bytes lens) (omega arith) q in
     let e1 = also-right _ _ e in
     let e2 = also-right _ _ e1 in
     record {
@@ -44,7 +44,7 @@ asked-replay-lent blocks bytes lens f =
 pub replay-asked : (blocks : ℕ) (m : Memory) (taken : Count) → askReplay blocks m taken ≡ 0 → Replay blocks m taken
 unfolding askReplay takenOk
 replay-asked blocks m taken q =
-    let e = ask-yes 2 _ (λ (z : _≡_ {A = ℕ} 2 0). omega arith) (andThen-right _ _ q) in
+    let e = ask-yes 2 _ (omega arith) (andThen-right _ _ q) in
     let t = also-right _ _ e in
     record {
       lent = replay-lent-asked blocks (length (m .bytes)) (length (m .lens)) (andThen-left _ _ q);
