@@ -4,7 +4,7 @@ use mathlib.Core.Bool.{Bool, true, false}
 use mathlib.Core.Path.{_≡_, ap}
 use mathlib.Core.List.{List, [], _∷_, map}
 use Rattle.layout.specs.declared.geometry.Geometry.{Geometry}
-use Rattle.source.specs.Codec.{Codec}
+use Rattle.codec.specs.Codec.{Codec}
 use Rattle.source.specs.JournalSystem as Y
 use Rattle.source.specs.Limits.{Limits}
 use Rattle.history.specs.Ledger.{Call}

@@ -10,7 +10,7 @@ use Rattle.source.specs.JournalCache as M
 use Rattle.source.specs.JournalSystem as Y
 use Rattle.source.specs.Limits.{limits}
 use Rattle.history.specs.Ledger.{Call, shown}
-use Rattle.history.specs.Format.{format}
+use Rattle.codec.specs.Format.{format}
 use Rattle.history.specs.Whole.{Loaded, ledgerOf, Tells, whole-history}
 
 pub demand-3 : (g : Geometry) (first : Y.Variables) (loc : Location) (i : Y.Init g first loc)

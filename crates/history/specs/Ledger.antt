@@ -12,7 +12,9 @@ use Rattle.layout.specs.declared.location.Location.{Location}
 use Rattle.layout.specs.Geometry.{NumJournalBlocks}
 use Rattle.superblock.specs.declared.superblock.Superblock.{Superblock}
 use Rattle.superblock.specs.Superblock.{IncrementSuperblockCounter}
-use Rattle.source.specs.Codec.{JournalEntry, Codec}
+use Rattle.codec.specs.Codec.{JournalEntry, Codec}
+pub use Rattle.codec.specs.Ranges.{Range}
+unfoldable pub use Rattle.codec.specs.Ranges.{blocks}
 use Rattle.source.specs.JournalDisk.{ReqId}
 
 -- the machine's steps in the order of the source's `Step`, ask again, landings, and crash. An answer to a read says whether it is whole.
@@ -38,15 +40,6 @@ pub data Call : Type 0 where
   askAgain : (which : Bool) → Call
   land : (which : Bool) → Call
   crash : Call
-
--- a range is the entries that one journal write sends
-abbrev pub Range : Type 0
-Range = List JournalEntry
-
--- the blocks that ranges take
-unfoldable pub blocks : Codec → List Range → ℕ
-blocks C [] = 0
-blocks C (r ∷ rs) = length (C .encode r) + blocks C rs
 
 pub record Kept : Type 0 where
   pub counter : ℕ

@@ -14,8 +14,8 @@ use Rattle.interval.specs.Interval.{interval, JournalFrontInterval, JournalBack
 use Rattle.interval.specs.Journal.{JournalBlock, CyclicSlice}
 use Rattle.interval.specs.Laws.{FrontBack, parts-none, parts-straight, parts-wrapped, parts-cases, sliceOf, front-back-slice}
 use Rattle.superblock.specs.declared.superblock.Superblock.{Superblock}
-use Rattle.source.specs.Sets.{no-ids, no-keys, at, same-value}
-use Rattle.source.specs.Codec.{JournalRange, Codec}
+use Rattle.laws.specs.Sets.{no-ids, no-keys, at, same-value}
+use Rattle.codec.specs.Codec.{JournalRange, Codec}
 use Rattle.source.specs.JournalDisk as D
 use Rattle.source.specs.JournalDisk.{DiskOp}
 use Rattle.source.specs.JournalCache as M
@@ -24,9 +24,9 @@ use Rattle.source.specs.JournalSystem as Y
 use Rattle.source.specs.Limits.{Limits}
 use Rattle.source.specs.Departures.{FinishLoadingOtherPhase⁺, Event, Allowed}
 use Rattle.history.specs.Ledger.{Call, writeJournal, journalWritten, commitLog, commitLocation, superblockWritten, readJournal, journalRead, readSuperblock, superblockRead, finishSuperblocks, finishOther, freeze, receive, add, replay, pushSync, popSync, noOp, askAgain, land, crash, blocks, Ledger, tell, Shown, shown}
-use Rattle.history.specs.Codes.{codes, whole, whole-same, length-codes, parse-codes}
-use Rattle.history.specs.Slots.{parity}
-use Rattle.history.specs.Relation.{superOf, Pieces, Sim}
+use Rattle.codec.specs.Ranges.{codes, whole, whole-same, length-codes, parse-codes}
+use Rattle.history.specs.Journal.Slots.{parity}
+use Rattle.history.specs.Simulation.Relation.{superOf, Pieces, Sim}
 use Rattle.history.specs.Calls.{Tied, tied-write, tied-written, unawaited-written, tied-log, tied-location, tied-committed, unawaited-committed, tied-page, tied-paged, tied-damaged, unawaited-paged, unawaited-damaged, tied-read, tied-superblock, tied-corrupt, unawaited-superblock, unawaited-corrupt, tied-finish-superblocks, tied-finish-other, tied-freeze, tied-receive, tied-add, tied-replay, tied-push, tied-pop, tied-no-op, tied-again, tied-land, tied-crash, Takes}
 
 -- reads and their whole answers, and the two finishing steps

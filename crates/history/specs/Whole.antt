@@ -12,9 +12,9 @@ use Rattle.layout.specs.declared.location.Location.{Location}
 use Rattle.superblock.specs.declared.superblock.Superblock.{Superblock}
 use Rattle.superblock.specs.Superblock.{SelectSuperblock}
 use Rattle.superblock.specs.Laws.{WFSuperblock}
-use Rattle.source.specs.Sets.{Two, both, at, same-value}
-use Rattle.source.specs.Tables.{no-keys-some}
-use Rattle.source.specs.Codec.{Codec}
+use Rattle.laws.specs.Sets.{Two, both, at, same-value}
+use Rattle.laws.specs.Maps.{no-keys-some}
+use Rattle.codec.specs.Codec.{Codec}
 use Rattle.source.specs.JournalCache as M
 use Rattle.source.specs.JournalCache.{SuperblockUnfinished, SuperblockSuccess}
 use Rattle.source.specs.JournalSystem as Y
@@ -22,12 +22,12 @@ use Rattle.source.specs.JournalSystem.{SuperblockOfDisk, superblock-of-disk-wf}
 use Rattle.source.specs.Limits.{Limits}
 use Rattle.source.specs.Departures.{Event, Allowed}
 use Rattle.history.specs.Ledger.{Call, crash, Ledger, begin, heard, books, tell, Shown, shown}
-use Rattle.history.specs.Codes.{codes-none, blocks-none}
-use Rattle.history.specs.Holds.{Holds, holds-none}
-use Rattle.history.specs.Slots.{parity, parity-slot, picked, picked-is}
-use Rattle.history.specs.Relation.{Sim}
+use Rattle.codec.specs.Ranges.{codes-none, blocks-none}
+use Rattle.history.specs.Journal.Holds.{Holds, holds-none}
+use Rattle.history.specs.Journal.Slots.{parity, parity-slot, picked, picked-is}
+use Rattle.history.specs.Simulation.Relation.{Sim}
 use Rattle.history.specs.Calls.{Tied, tied-crash, Takes}
-use Rattle.history.specs.Steps.{sim-step}
+use Rattle.history.specs.Simulation.Steps.{sim-step}
 use Rattle.history.specs.Reloaded.{loads, readyBy, shows, Clean, clean-step, loads-tell}
 
 -- an accepted call is an allowed step; a refused one leaves the state as it is

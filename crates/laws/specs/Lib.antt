@@ -5,3 +5,5 @@ pub mod Fold
 pub mod Cut
 pub mod Ring
 pub mod Around
+pub mod Sets
+pub mod Maps

@@ -14,8 +14,8 @@ use native.Mathlib.Decide.{ℕ-discrete}
 use lib.ListN.{length, getD}
 use Rattle.layout.specs.declared.geometry.Geometry.{Geometry}
 use Rattle.interval.specs.Journal.{JournalBlock}
-use Rattle.source.specs.Sets.{Two, at, put}
-use Rattle.source.specs.Codec.{JournalEntry, JournalRange, Codec}
+use Rattle.laws.specs.Sets.{Two, at, put}
+use Rattle.codec.specs.Codec.{JournalEntry, JournalRange, Codec}
 use Rattle.source.specs.JournalDisk as D
 use Rattle.source.specs.JournalDisk.{ReqId, DiskOp, ReqReadSuperblockOp, ReqReadJournalOp, ReqWriteSuperblockOp, ReqWriteJournalOp, RespReadSuperblockOp, RespReadJournalOp, RespWriteSuperblockOp, RespWriteJournalOp, NoDiskOp, JournalUntouched}
 use Rattle.source.specs.JournalCache as M

@@ -19,8 +19,8 @@ use Rattle.interval.specs.declared.interval.JournalInterval.{JournalInterval}
 use Rattle.superblock.specs.declared.superblock.Superblock.{Superblock}
 use Rattle.superblock.specs.Superblock.{IncrementSuperblockCounter, SelectSuperblockIndex, SelectSuperblock, JournalFrontIntervalOfSuperblock, JournalBackIntervalOfSuperblock, wfSuperblock}
 use Rattle.superblock.specs.Laws.{WFSuperblock}
-use Rattle.source.specs.Sets.{Ids, no-ids, join, leave, Map, no-keys, bind, unbind, each, both, at, put}
-use Rattle.source.specs.Codec.{JournalEntry, JournalRange, JournalRangeLen, JournalRangeConcat, JournalRangeEmpty, Codec, JournalRangeParses}
+use Rattle.laws.specs.Sets.{Ids, no-ids, join, leave, Map, no-keys, bind, unbind, each, both, at, put}
+use Rattle.codec.specs.Codec.{JournalEntry, JournalRange, JournalRangeLen, JournalRangeConcat, JournalRangeEmpty, Codec, JournalRangeParses}
 use Rattle.source.specs.JournalDisk.{ReqId, ReqWriteSuperblock, ReqWriteJournal, DiskOp, ReqReadSuperblockOp, ReqReadJournalOp, ReqWriteSuperblockOp, ReqWriteJournalOp, RespReadSuperblockOp, RespReadJournalOp, RespWriteSuperblockOp, RespWriteJournalOp, NoDiskOp}
 pub use Rattle.source.specs.MachineState.{SyncReqStatus, State1, State2, State3, SuperblockReadResult, SuperblockSuccess, SuperblockUnfinished, SuperblockCorruption, CommitStatus, CommitNone, CommitAdvanceLog, CommitAdvanceLocation}
 pub use Rattle.source.specs.MachineState.{Variables, Ready, LoadingOther, LoadingSuperblock, ReadyVariables, LoadingOtherVariables, LoadingSuperblockVariables, isReady, isLoadingOther, isLoadingSuperblock, syncReqsOf, withSyncReqs}

@@ -14,8 +14,8 @@ use Rattle.interval.specs.Interval.{interval}
 use Rattle.interval.specs.Facts.{ContiguousJournalInterval, InCyclicRange}
 use Rattle.interval.specs.Journal.{JournalBlock, JournalUpdate}
 use Rattle.superblock.specs.declared.superblock.Superblock.{Superblock}
-use Rattle.source.specs.Sets.{Ids, no-ids, join, leave, Map, no-keys, bind, unbind, Two, both, at, put}
-use Rattle.source.specs.Codec.{JournalRange, Disk-HasJournalRange, Disk-JournalRange}
+use Rattle.laws.specs.Sets.{Ids, no-ids, join, leave, Map, no-keys, bind, unbind, Two, both, at, put}
+use Rattle.codec.specs.Codec.{JournalRange, Disk-HasJournalRange, Disk-JournalRange}
 
 abbrev pub ReqId : Type 0
 ReqId = ℕ

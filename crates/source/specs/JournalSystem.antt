@@ -19,8 +19,8 @@ use Rattle.interval.specs.Facts.{ValidJournalInterval}
 use Rattle.superblock.specs.declared.superblock.Superblock.{Superblock}
 use Rattle.superblock.specs.Superblock.{SelectSuperblockIndex, SelectSuperblock}
 use Rattle.superblock.specs.Laws.{WFSuperblock}
-use Rattle.source.specs.Sets.{Map, each, at}
-use Rattle.source.specs.Codec.{JournalEntry, Codec, Disk-HasJournal, Disk-Journal}
+use Rattle.laws.specs.Sets.{Map, each, at}
+use Rattle.codec.specs.Codec.{JournalEntry, Codec, Disk-HasJournal, Disk-Journal}
 use Rattle.source.specs.JournalDisk as D
 use Rattle.source.specs.JournalCache as M
 

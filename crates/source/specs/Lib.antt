@@ -1,15 +1,7 @@
-pub mod Sets
-pub mod Tables
-pub mod Codec
 pub mod JournalDisk
 pub mod MachineState
 pub mod JournalCache
 pub mod JournalSystem
 pub mod Limits
 pub mod Departures
-pub mod Unique
-pub mod Answers
-pub mod Open
-pub mod PreservedReady
-pub mod Preserved
-pub mod Effects
+pub mod Laws

@@ -17,8 +17,8 @@ use Rattle.interval.specs.Facts.{ContiguousJournalInterval}
 use Rattle.interval.specs.Overlap.{journalIntervalOverlap, journalCyclicIntervalOverlap}
 use Rattle.interval.specs.Journal.{JournalBlock}
 use Rattle.superblock.specs.declared.superblock.Superblock.{Superblock}
-use Rattle.source.specs.Sets.{Ids, no-ids, join, Map, no-keys, bind, keys, AtMost, none-few, none-some, Two, both, at, at-both, put}
-use Rattle.source.specs.Codec.{JournalEntry, JournalRange}
+use Rattle.laws.specs.Sets.{Ids, no-ids, join, Map, no-keys, bind, keys, AtMost, none-few, none-some, Two, both, at, at-both, put}
+use Rattle.codec.specs.Codec.{JournalEntry, JournalRange}
 use Rattle.source.specs.JournalDisk as D
 use Rattle.source.specs.JournalDisk.{ReqId, ReqWriteSuperblockId}
 use Rattle.source.specs.JournalCache as M

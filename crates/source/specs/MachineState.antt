@@ -5,8 +5,8 @@ use mathlib.Core.List.{List}
 use mathlib.Core.Option.{Option}
 use Rattle.layout.specs.declared.location.Location.{Location}
 use Rattle.superblock.specs.declared.superblock.Superblock.{Superblock}
-use Rattle.source.specs.Sets.{Ids, Map, Two}
-use Rattle.source.specs.Codec.{JournalEntry, JournalRange}
+use Rattle.laws.specs.Sets.{Ids, Map, Two}
+use Rattle.codec.specs.Codec.{JournalEntry, JournalRange}
 use Rattle.source.specs.JournalDisk.{ReqId}
 
 pub data SyncReqStatus : Type 0 where

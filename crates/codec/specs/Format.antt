@@ -1,0 +1,94 @@
+-- Document 01's range format as the relations' `Codec`: a range's bytes are cut into blocks of 4,096, and blocks parse where their bytes do.
+use Prim.Native.Nat.{_+_, _<_}
+use mathlib.Core.Bool.{Bool, true}
+use mathlib.Core.Path.{_≡_, refl, sym, _∙_, ap}
+use mathlib.Core.List.{List, [], _∷_, _++_, append-nil}
+use mathlib.Core.Option.{Option, some}
+use native.Mathlib.Omega.{arith}
+use lib.Dec.{leb}
+use borrow.Author.Tests.{leb-true, le-leb}
+use lib.ListN.{length, replicate, length-replicate}
+use Rattle.laws.specs.Choice.{also, also-left, also-right, also-both}
+use Rattle.laws.specs.Fold.{sum, every, sum-replicate}
+use Rattle.laws.specs.Cut.{cut, flat, lengths, length-cut, flat-append, lengths-cut, flat-even}
+use Rattle.range.specs.Form as Form
+use Rattle.range.specs.Form.{Entry, BlockSize, MostEntries, MostEntryLength, LengthWidth, okLength, blocksAllAt, parseAllAt}
+use Rattle.range.specs.Blocks.{format-sizes, blocks-some, length-encodeAt}
+use Rattle.range.specs.Ranges.{parseAll-none, parseAll-append, encodeAll-one, parseAll-encodeAll}
+use Rattle.codec.specs.Codec.{JournalRange, Codec}
+use Rattle.codec.specs.Ranges.{Range, blocks}
+
+-- the test of what one range can hold: from 1 to 1,024 entries of 1 to 255 bytes
+unfoldable pub goodEntries : List Entry → Bool
+goodEntries es =
+    also (leb 1 (length es))
+    (also (leb (length es) MostEntries)
+    (every (okLength MostEntryLength) (lengths es)))
+
+pub good-facts : (es : List Entry) → goodEntries es ≡ true → Form.Good MostEntryLength es
+unfolding goodEntries
+good-facts es e =
+    let e1 = also-right _ _ e in
+    record { any = leb-true 1 (length es) (also-left _ _ e); few = leb-true (length es) MostEntries (also-left _ _ e1); each = also-right _ _ e1 }
+
+pub facts-good : (es : List Entry) → Form.Good MostEntryLength es → goodEntries es ≡ true
+unfolding goodEntries
+facts-good es f = also-both _ _ (le-leb 1 (length es) (f .any)) (also-both _ _ (le-leb (length es) MostEntries (f .few)) (f .each))
+
+-- the blocks of a range
+unfoldable pub encodeBlocks : List Entry → JournalRange
+encodeBlocks es = cut (replicate (Form.blocks es) BlockSize) (Form.encode es)
+
+unfoldable pub parseBlocks : JournalRange → Option (List Entry)
+parseBlocks bs = Form.parseJournalRange (flat bs)
+
+pub length-encodeBlocks : (es : List Entry) → length (encodeBlocks es) ≡ Form.blocks es
+unfolding encodeBlocks
+length-encodeBlocks es = length-cut (replicate (Form.blocks es) BlockSize) (Form.encode es) ∙ length-replicate (Form.blocks es) BlockSize
+
+-- joined again they are its bytes, and each has 4,096
+pub flat-encodeBlocks : (es : List Entry) → flat (encodeBlocks es) ≡ Form.encode es
+unfolding encodeBlocks
+flat-encodeBlocks es = flat-even (Form.blocks es) BlockSize (Form.encode es) (length-encodeAt LengthWidth es)
+
+pub lengths-encodeBlocks : (es : List Entry) → lengths (encodeBlocks es) ≡ replicate (Form.blocks es) BlockSize
+unfolding encodeBlocks
+lengths-encodeBlocks es =
+    lengths-cut (replicate (Form.blocks es) BlockSize) (Form.encode es) (omega (arith, sum-replicate (Form.blocks es) BlockSize, length-encodeAt LengthWidth es))
+
+-- the laws of a codec
+pub format-empty : parseBlocks [] ≡ some []
+unfolding parseBlocks flat
+format-empty = parseAll-none LengthWidth MostEntryLength
+
+pub format-encode : (es : List Entry) → goodEntries es ≡ true → parseBlocks (encodeBlocks es) ≡ some es
+unfolding parseBlocks flat
+format-encode es g =
+    ap (parseAllAt LengthWidth MostEntryLength) (flat-encodeBlocks es ∙ sym (encodeAll-one LengthWidth es))
+    ∙ parseAll-encodeAll LengthWidth MostEntryLength format-sizes (es ∷ []) (good-facts es g, tt)
+    ∙ ap {B = Option (List Entry)} some (append-nil es)
+
+pub format-append : (a b : JournalRange) (es fs : List Entry) → parseBlocks a ≡ some es → parseBlocks b ≡ some fs → parseBlocks (a ++ b) ≡ some (es ++ fs)
+unfolding parseBlocks
+format-append a b es fs p q = ap (parseAllAt LengthWidth MostEntryLength) (flat-append a b) ∙ parseAll-append LengthWidth MostEntryLength (flat a) (flat b) es fs p q
+
+pub format-some : (es : List Entry) → 0 < length (encodeBlocks es)
+format-some es = omega (arith, length-encodeBlocks es, blocks-some LengthWidth es)
+
+abbrev pub format : Codec
+format =
+    record {
+      parseJournalRange = parseBlocks;
+      good = goodEntries;
+      encode = encodeBlocks;
+      parse-empty = format-empty;
+      parse-encode = format-encode;
+      parse-append = format-append;
+      encode-some = format-some;
+    }
+
+-- the blocks of ranges are the format's
+pub format-blocks : (rs : List Range) → blocks format rs ≡ Form.blocksAll rs
+unfolding blocks blocksAllAt sum
+format-blocks [] = refl
+format-blocks (r ∷ rs) = λ i. length-encodeBlocks r i + format-blocks rs i

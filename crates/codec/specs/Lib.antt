@@ -1,0 +1,3 @@
+pub mod Codec
+pub mod Ranges
+pub mod Format

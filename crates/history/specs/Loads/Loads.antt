@@ -1,0 +1,365 @@
+-- A store comes up: from any state that a crash leaves, related to a ledger and with blocks of their size, some loading steps are allowed
+-- that lead to Ready, and the machine there is the one that the ledger tells. So a history of demand 3 can be had from every crash that is
+-- taken.
+use Prim.Native.Nat.{ℕ}
+use mathlib.Core.Bool.{Bool, true, false, not}
+use mathlib.Core.Path.{_≡_, refl, sym, _∙_, ap, subst}
+use mathlib.Core.List.{List, [], _∷_, _++_}
+use mathlib.Core.Option.{Option, none, some}
+use mathlib.Core.Logic.{inl, inr}
+use lib.ListN.{length}
+use Rattle.layout.specs.declared.geometry.Geometry.{Geometry}
+use Rattle.layout.specs.declared.location.Location.{Location}
+use Rattle.interval.specs.declared.interval.JournalInterval.{JournalInterval}
+use Rattle.interval.specs.Interval.{interval}
+use Rattle.interval.specs.Journal.{JournalBlock, CyclicSlice, fullRange}
+use Rattle.superblock.specs.declared.superblock.Superblock.{Superblock}
+use Rattle.superblock.specs.Superblock.{SelectSuperblock}
+use Rattle.superblock.specs.Laws.{WFSuperblock}
+use Rattle.laws.specs.Sets.{no-ids, no-keys, AtMost, none-few, Two, both, at, put, none-some, at-both, at-put, at-put-other}
+use Rattle.codec.specs.Codec.{JournalRange, Codec, Disk-JournalRange}
+use Rattle.source.specs.JournalDisk.{NoDiskOp}
+use Rattle.source.specs.JournalCache as M
+use Rattle.source.specs.JournalCache.{SuperblockReadResult, SuperblockSuccess, SuperblockUnfinished, FinishLoadingSuperblockPhaseStep, FinishLoadingOtherPhaseStep, journalIntervalOfSuperblock, loaded}
+use Rattle.source.specs.JournalSystem as Y
+use Rattle.source.specs.JournalSystem.{SuperblockOfDisk}
+use Rattle.source.specs.Limits.{Limits}
+use Rattle.source.specs.Departures.{Event, Source, MachineStep, Allowed}
+use Rattle.history.specs.Ledger.{Call, crash, readSuperblock, superblockRead, finishSuperblocks, finishOther, readJournal, journalRead, Ledger, begin, books, tell, shown}
+use Rattle.codec.specs.Ranges.{codes, whole, whole-full, whole-same, length-codes, parse-codes}
+use Rattle.history.specs.Journal.Slots.{Slots, picked-is, slots-wf}
+use Rattle.history.specs.Simulation.Relation.{superOf, Pieces, Sim}
+use Rattle.history.specs.Calls.{Tied, tied-finish-superblocks, tied-finish-other, tied-crash, Takes}
+use Rattle.history.specs.Simulation.Steps.{sim-step}
+use Rattle.history.specs.Reloaded.{loads, readyBy, loaded-whole}
+use Rattle.history.specs.Whole.{Trace, OnlyLoads, Loaded, sim-run, firstParity, init-sim}
+use Rattle.history.specs.Loads.Superblocks.{resting, Sized, Room, disk-meets, joined, Read, read-put, superblocksAt, machine-superblocks, slot-read}
+use Rattle.history.specs.Loads.Journal.{otherAt, Owned, machine-other, page-read, page-held, page-owned}
+
+-- lists one after another
+pub trace-append : (g : Geometry) (C : Codec) (L : Limits) (s u t : Y.Variables) (xs : List Call) (bs : List Bool) (ys : List Call) (cs : List Bool) → Trace g C L s xs bs u → Trace g C L u ys cs t
+    → Trace g C L s (xs ++ ys) (bs ++ cs) t
+trace-append g C L s u t [] [] ys cs h k = subst (λ (x : Y.Variables). Trace g C L x ys cs t) h k
+trace-append g C L s u t [] (b ∷ bs) ys cs h k = absurd h
+trace-append g C L s u t (x ∷ xs) [] ys cs h k = absurd h
+trace-append g C L s u t (x ∷ xs) (b ∷ bs) ys cs h k = (h .0, h .1, trace-append g C L (h .0) u t xs bs ys cs (h .2) k)
+
+only-append : (g : Geometry) (C : Codec) (L : Limits) (s u : Y.Variables) (xs : List Call) (bs : List Bool) (ys : List Call) (cs : List Bool) → Trace g C L s xs bs u → OnlyLoads xs bs → OnlyLoads ys cs
+    → OnlyLoads (xs ++ ys) (bs ++ cs)
+only-append g C L s u [] [] ys cs h p q = q
+only-append g C L s u [] (b ∷ bs) ys cs h p q = absurd h
+only-append g C L s u (x ∷ xs) [] ys cs h p q = absurd h
+only-append g C L s u (x ∷ xs) (b ∷ bs) ys cs h p q = (p .0, only-append g C L (h .0) u xs bs ys cs (h .2) (p .1) q)
+
+-- some loading steps lead from one state to another
+pub record Comes (g : Geometry) (C : Codec) (L : Limits) (s t : Y.Variables) : Type 0 where
+  pub calls : List Call
+  pub answers : List Bool
+  pub trace : Trace g C L s calls answers t
+  pub only-loads : OnlyLoads calls answers
+
+then : {g : Geometry} {C : Codec} {L : Limits} {s u t : Y.Variables} → Comes g C L s u → Comes g C L u t → Comes g C L s t
+then {g = g} {C = C} {L = L} {s = s} {u = u} {t = t} a b =
+    record {
+      calls = a .calls ++ b .calls;
+      answers = a .answers ++ b .answers;
+      trace = trace-append g C L s u t (a .calls) (a .answers) (b .calls) (b .answers) (a .trace) (b .trace);
+      only-loads = only-append g C L s u (a .calls) (a .answers) (b .calls) (b .answers) (a .trace) (a .only-loads) (b .only-loads);
+    }
+
+module _ (g : Geometry) (C : Codec) (L : Limits) (room : Room L) (slots : Two (Option Superblock)) (j : List (Option JournalBlock)) (w : Bool) (v : Superblock)
+    (selected : Slots g slots w v) (size : length j ≡ g .blocks) (sized : Sized j) (full : fullRange (CyclicSlice g j (interval (v .journalStart) (v .journalLen))) ≡ true) where
+  abbrev at-rest : M.Variables → Y.Variables
+  at-rest m = record { machine = m; disk = resting slots j }
+
+  none-superblocks : (b : Bool) → AtMost (L .superblockReads) (at (both no-ids) b)
+  none-superblocks b = subst (AtMost (L .superblockReads)) (sym (at-both no-ids b)) (none-few (L .superblockReads))
+
+  -- a slot
+  comes-slot : (which : Bool) (results : Two SuperblockReadResult) → Read results (selected .values) → at results which ≡ SuperblockUnfinished
+      → Comes g C L (at-rest (superblocksAt (both none) results)) (at-rest (superblocksAt (both none) (put results which (SuperblockSuccess (at (selected .values) which)))))
+  unfolding loads
+  comes-slot which results read unread =
+      record {
+        calls = readSuperblock which 1 ∷ superblockRead which 1 true ∷ [];
+        answers = true ∷ true ∷ [];
+        trace = slot-read g C L room slots j w v selected size sized which results read unread;
+        only-loads = (λ e. refl, (λ e. refl, tt));
+      }
+
+  -- both slots were read: the selected superblock
+  comes-selected : Comes g C L (at-rest (superblocksAt (both none) (record { first = SuperblockSuccess (selected .values .first); second = SuperblockSuccess (selected .values .second) })))
+      (at-rest (otherAt v w (both none) (both none)))
+  unfolding loads
+  comes-selected =
+      record {
+        calls = finishSuperblocks ∷ [];
+        answers = true ∷ [];
+        trace = (
+          _,
+          record {
+            event = MachineStep NoDiskOp (Source FinishLoadingSuperblockPhaseStep);
+            tied = tied-finish-superblocks;
+            allowed =
+                record {
+                  meets =
+                      record {
+                        machine = machine-superblocks g C L room slots j w v selected size sized (both none) both-read both-in (λ b id e. none-some (at-both none b) e) (λ id p q. none-some refl p);
+                        disk = disk-meets g L slots j w v selected size sized (both no-ids) no-keys none-superblocks (none-few (L .journalReads)) (λ id u e. none-some refl e);
+                        joined = joined g L slots j w v selected size sized (both no-ids) no-keys (superblocksAt (both none) both-read) refl refl refl refl;
+                      };
+                  step =
+                      record {
+                        machine =
+                            record {
+                              op = refl;
+                              superblock1 = selected .values .first;
+                              success1 = refl;
+                              superblock2 = selected .values .second;
+                              success2 = refl;
+                              one-success = inl refl;
+                              next = λ i. otherAt (sym is i) (sym (selected .picks) i) (both none) (both none);
+                              loc = SelectSuperblock (selected .values .first) (selected .values .second) .indirectionTableLoc;
+                              loc-is = refl;
+                            };
+                        disk = record { next = refl };
+                      };
+                };
+          },
+          refl,
+        );
+        only-loads = (λ e. refl, tt);
+      }
+    where
+      both-read : Two SuperblockReadResult
+      both-read = record { first = SuperblockSuccess (selected .values .first); second = SuperblockSuccess (selected .values .second) }
+
+      both-in : Read both-read (selected .values)
+      both-in true = inr refl
+      both-in false = inr refl
+
+      is : SelectSuperblock (selected .values .first) (selected .values .second) ≡ v
+      is = picked-is (selected .values) ∙ ap (at (selected .values)) (selected .picks) ∙ selected .is
+
+  -- a piece, where there is one
+  record Paging (which : Bool) (pieces : Two (Option JournalRange)) : Type 0 where
+    pieces′ : Two (Option JournalRange)
+    comes : Comes g C L (at-rest (otherAt v w (both none) pieces)) (at-rest (otherAt v w (both none) pieces′))
+    owned : Owned g v pieces′
+    held : Pieces g v pieces′ j
+    has : (u : JournalInterval) → journalIntervalOfSuperblock g which v ≡ some u → (jr : JournalRange) × (at pieces′ which ≡ some jr)
+    others : at pieces′ (not which) ≡ at pieces (not which)
+
+  pages : (which : Bool) (pieces : Two (Option JournalRange)) → at pieces which ≡ none → Owned g v pieces → Pieces g v pieces j → Paging which pieces
+  unfolding loads
+  pages which pieces unread owned held = go (journalIntervalOfSuperblock g which v) refl
+    where
+      go : (o : Option JournalInterval) → journalIntervalOfSuperblock g which v ≡ o → Paging which pieces
+      go none e =
+          record {
+            pieces′ = pieces;
+            comes = record { calls = []; answers = []; trace = refl; only-loads = tt };
+            owned = owned;
+            held = held;
+            has = λ u q. none-some e q;
+            others = refl;
+          }
+      go (some u) e =
+          record {
+            pieces′ = put pieces which (some (Disk-JournalRange g j u));
+            comes =
+                record {
+                  calls = readJournal which 1 ∷ journalRead 1 true ∷ [];
+                  answers = true ∷ true ∷ [];
+                  trace = page-read g C L room slots j w v selected size sized full which u pieces e unread owned held;
+                  only-loads = (λ q. refl, (λ q. refl, tt));
+                };
+            owned = page-owned g C L room slots j w v selected size sized full which u pieces e owned;
+            held = page-held g C L room slots j w v selected size sized full which u pieces e held;
+            has = λ x q. (Disk-JournalRange g j u, at-put pieces which (some (Disk-JournalRange g j u)));
+            others = at-put-other pieces which (some (Disk-JournalRange g j u));
+          }
+
+-- from a crash to Ready
+module _ (g : Geometry) (C : Codec) (L : Limits) (room : Room L) (p : ℕ) (slots : Two (Option Superblock)) (j : List (Option JournalBlock)) (l : Ledger)
+    (z : Sim g C p (M.Variables.LoadingSuperblock M.initial) (resting slots j) l) (sized : Sized j) where
+  selected : Slots g slots (z .slot) (superOf C (l .kept))
+  selected = z .disk .selected
+
+  spans : CyclicSlice g j (interval (l .kept .start) (superOf C (l .kept) .journalLen)) ≡ whole (codes C (l .kept .ranges))
+  spans = ap (λ (n : ℕ). CyclicSlice g j (interval (l .kept .start) n)) (sym (length-codes C (l .kept .ranges))) ∙ z .disk .holds
+
+  full : fullRange (CyclicSlice g j (interval (l .kept .start) (superOf C (l .kept) .journalLen))) ≡ true
+  full = ap fullRange spans ∙ whole-full (codes C (l .kept .ranges))
+
+  -- the finishing step: the pieces parse to the ledger's entries
+  comes-ready : (pieces : Two (Option JournalRange)) → Owned g (superOf C (l .kept)) pieces → Pieces g (superOf C (l .kept)) pieces j
+      → ((which : Bool) (u : JournalInterval) → journalIntervalOfSuperblock g which (superOf C (l .kept)) ≡ some u → (jr : JournalRange) × (at pieces which ≡ some jr))
+      → Comes g C L (record { machine = otherAt (superOf C (l .kept)) (z .slot) (both none) pieces; disk = resting slots j })
+      (record { machine = M.Variables.Ready (readyBy (shown C l) (z .slot)); disk = resting slots j })
+  unfolding loads
+  comes-ready pieces owned held has =
+      record {
+        calls = finishOther ∷ [];
+        answers = true ∷ [];
+        trace = (
+          record { machine = M.Variables.Ready (readyBy (shown C l) (z .slot)); disk = resting slots j },
+          record {
+            event = MachineStep NoDiskOp (Source FinishLoadingOtherPhaseStep);
+            tied = tied-finish-other;
+            allowed =
+                record {
+                  meets =
+                      record {
+                        machine =
+                            machine-other g C L room slots j (z .slot) (superOf C (l .kept)) selected (z .disk .size) sized full (both none) pieces owned held
+                            (λ b id q. none-some (at-both none b) q) (λ id a b. none-some refl a);
+                        disk =
+                            disk-meets g L slots j (z .slot) (superOf C (l .kept)) selected (z .disk .size) sized (both no-ids) no-keys
+                            (none-superblocks g C L room slots j (z .slot) (superOf C (l .kept)) selected (z .disk .size) sized full) (none-few (L .journalReads)) (λ id u e. none-some refl e);
+                        joined =
+                            joined g L slots j (z .slot) (superOf C (l .kept)) selected (z .disk .size) sized (both no-ids) no-keys
+                            (otherAt (superOf C (l .kept)) (z .slot) (both none) pieces) refl refl refl refl;
+                      };
+                  step =
+                      record {
+                        machine =
+                            record {
+                              source =
+                                  record {
+                                    op = refl;
+                                    start-in = wf .start-in;
+                                    len-in = wf .len-in;
+                                    front-in = has false;
+                                    back-in = has true;
+                                    superblockWrite-is = refl;
+                                    inMemoryJournalFrozen-is = refl;
+                                    inMemoryJournal-is = refl;
+                                    outstandingJournalWrites-is = refl;
+                                    writtenJournalLen-is = refl;
+                                    parses = ap (C .parseJournalRange) blocks-are ∙ parse-codes C (l .kept .ranges) (z .disk .good);
+                                    superblock-is = refl;
+                                    whichSuperblock-is = refl;
+                                    newSuperblock-is = refl;
+                                    syncReqs-is = refl;
+                                    isFrozen-is = refl;
+                                    frozenLoc-is = refl;
+                                    commitStatus-is = refl;
+                                  };
+                              position-is = refl;
+                            };
+                        disk = record { next = refl };
+                      };
+                };
+          },
+          refl,
+        );
+        only-loads = (λ e. refl, tt);
+      }
+    where
+      wf : WFSuperblock g (superOf C (l .kept))
+      wf = slots-wf g slots (z .slot) (superOf C (l .kept)) selected
+
+      loading : M.LoadingOtherVariables
+      loading = record { superblock = superOf C (l .kept); whichSuperblock = z .slot; journalReads = both none; journalPieces = pieces; syncReqs = no-keys }
+
+      blocks-are : loaded g loading ≡ codes C (l .kept .ranges)
+      blocks-are = whole-same (loaded g loading) (codes C (l .kept .ranges)) (loaded-whole g loading j (z .disk .size) (wf .start-in) (wf .len-in) held (has false) (has true) ∙ spans)
+
+  pub comes-up : Comes g C L (record { machine = M.Variables.LoadingSuperblock M.initial; disk = resting slots j })
+      (record { machine = M.Variables.Ready (readyBy (shown C l) (z .slot)); disk = resting slots j })
+  comes-up =
+      then (slot-of false (both SuperblockUnfinished) unread refl)
+      (then (slot-of true (put (both SuperblockUnfinished) false (SuperblockSuccess (selected .values .first))) (read-put (both SuperblockUnfinished) (selected .values) false unread) refl)
+      (then (comes-selected g C L room slots j (z .slot) (superOf C (l .kept)) selected (z .disk .size) sized full)
+      (then (front .comes) (then (back .comes) (comes-ready (back .pieces′) (back .owned) (back .held) has)))))
+    where
+      slot-of : (which : Bool) (results : Two SuperblockReadResult) → Read results (selected .values) → at results which ≡ SuperblockUnfinished
+          → Comes g C L (record { machine = superblocksAt (both none) results; disk = resting slots j })
+          (record { machine = superblocksAt (both none) (put results which (SuperblockSuccess (at (selected .values) which))); disk = resting slots j })
+      slot-of = comes-slot g C L room slots j (z .slot) (superOf C (l .kept)) selected (z .disk .size) sized full
+
+      unread : Read (both SuperblockUnfinished) (selected .values)
+      unread b = inl (at-both SuperblockUnfinished b)
+
+      front : Paging g C L room slots j (z .slot) (superOf C (l .kept)) selected (z .disk .size) sized full false (both none)
+      front =
+          pages g C L room slots j (z .slot) (superOf C (l .kept)) selected (z .disk .size) sized full false (both none) refl
+          (λ b jr e. none-some (at-both none b) e) (λ b jr u e. none-some (at-both none b) e)
+
+      back : Paging g C L room slots j (z .slot) (superOf C (l .kept)) selected (z .disk .size) sized full true (front .pieces′)
+      back = pages g C L room slots j (z .slot) (superOf C (l .kept)) selected (z .disk .size) sized full true (front .pieces′) (front .others) (front .owned) (front .held)
+
+      has : (which : Bool) (u : JournalInterval) → journalIntervalOfSuperblock g which (superOf C (l .kept)) ≡ some u → (jr : JournalRange) × (at (back .pieces′) which ≡ some jr)
+      has true u e = back .has u e
+      has false u e = (front .has u e .0, back .others ∙ front .has u e .1)
+
+-- a crash leaves a disk at rest
+crash-rests : (g : Geometry) (C : Codec) (L : Limits) (s t : Y.Variables) (e : Event) → Tied crash e → Allowed g C L s t e
+    → t ≡ record { machine = M.Variables.LoadingSuperblock M.initial; disk = resting (t .disk .superblocks) (t .disk .journal) }
+crash-rests g C L s t e tied-crash a =
+    let c = a .step .disk .source in
+    λ i.
+    record {
+      machine = a .step .machine i;
+      disk =
+          record {
+            reqReadSuperblocks = c .no-superblock-reads i;
+            reqReadJournals = c .no-journal-reads i;
+            reqWriteSuperblocks = c .no-superblock-writes i;
+            reqWriteJournals = c .no-journal-writes i;
+            superblocks = t .disk .superblocks;
+            journal = t .disk .journal;
+          };
+    }
+
+-- so every history that ends with a crash that is taken can be loaded
+pub crash-loads : (g : Geometry) (C : Codec) (L : Limits) → Room L → (first : Y.Variables) (loc : Location) → Y.Init g first loc → (calls : List Call) (answers : List Bool) (before after : Y.Variables)
+    → Trace g C L first calls answers before → Takes g C L before after crash → Sized (after .disk .journal)
+    → (loading : List Call) × ((loaded : List Bool) × ((r : M.ReadyVariables) × Loaded g C L first calls answers loading loaded r))
+crash-loads g C L room first loc i calls answers before after ran crashed sized = (
+  up .calls,
+  (
+    up .answers,
+    (
+      readyBy (shown C l) (z .slot),
+      record {
+        before = before;
+        ran = ran;
+        after = after;
+        crashed = crashed;
+        end = record { machine = M.Variables.Ready (readyBy (shown C l) (z .slot)); disk = resting slots j };
+        load = subst (λ (s : Y.Variables). Trace g C L s (up .calls) (up .answers) (record { machine = M.Variables.Ready (readyBy (shown C l) (z .slot)); disk = resting slots j })) (sym rests) (up .trace);
+        only-loads = up .only-loads;
+        ready = refl;
+      },
+    ),
+  ),
+)
+  where
+    p : ℕ
+    p = firstParity g C first loc i
+
+    l₁ : Ledger
+    l₁ = books g C (begin (SuperblockOfDisk g (first .disk) (i .wf))) calls answers
+
+    l : Ledger
+    l = tell g C crash l₁
+
+    slots : Two (Option Superblock)
+    slots = after .disk .superblocks
+
+    j : List (Option JournalBlock)
+    j = after .disk .journal
+
+    rests : after ≡ record { machine = M.Variables.LoadingSuperblock M.initial; disk = resting slots j }
+    rests = crash-rests g C L before after (crashed .event) (crashed .tied) (crashed .allowed)
+
+    z : Sim g C p (M.Variables.LoadingSuperblock M.initial) (resting slots j) l
+    z =
+        subst (λ (s : Y.Variables). Sim g C p (s .machine) (s .disk) l) rests
+        (sim-step g C L p before after l₁ (sim-run g C L p first before (begin (SuperblockOfDisk g (first .disk) (i .wf))) calls answers (init-sim g C first loc i) ran) crash crashed)
+
+    up : Comes g C L (record { machine = M.Variables.LoadingSuperblock M.initial; disk = resting slots j })
+        (record { machine = M.Variables.Ready (readyBy (shown C l) (z .slot)); disk = resting slots j })
+    up = comes-up g C L room p slots j l z sized

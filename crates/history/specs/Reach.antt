@@ -1,0 +1,5 @@
+pub mod Neat
+pub mod NeatWrites
+pub mod NeatReads
+pub mod NeatSteps
+pub mod Reachable
