@@ -68,6 +68,16 @@ also-comm true false = refl
 also-comm false true = refl
 also-comm false false = refl
 
+pub also-assoc : (a b c : Bool) → also (also a b) c ≡ also a (also b c)
+unfolding also
+also-assoc true b c = refl
+also-assoc false b c = refl
+
+pub also-true : (a : Bool) → also a true ≡ a
+unfolding also
+also-true true = refl
+also-true false = refl
+
 pub also-false : (a : Bool) → also a false ≡ false
 unfolding also
 also-false true = refl

@@ -9,7 +9,7 @@ use native.Mathlib.Omega.{arith}
 use lib.Dec.{eqb}
 use borrow.Author.Tests.{eq-eqb, ne-eqb, eqb-true}
 use lib.ListN.{length, take, drop, getD, replicate, take-append-drop}
-use Rattle.laws.specs.Choice.{also, also-left, also-right, also-both, false-true, not-so}
+use Rattle.laws.specs.Choice.{also, also-left, also-right, also-both, also-assoc, also-true, false-true, not-so}
 use Rattle.laws.specs.Part.{drop-step, take-step, drop-end}
 
 -- the sum of the numbers
@@ -66,11 +66,7 @@ module _ {ℓ} {A : Type ℓ} (p : A → Bool) where
   pub every-append : (xs ys : List A) → every p (xs ++ ys) ≡ also (every p xs) (every p ys)
   unfolding every also
   every-append [] ys = refl
-  every-append (x ∷ xs) ys = rw (every-append xs ys) (go (p x) (every p xs) (every p ys))
-    where
-      go : (a b c : Bool) → also a (also b c) ≡ also (also a b) c
-      go true b c = refl
-      go false b c = refl
+  every-append (x ∷ xs) ys = rw (every-append xs ys) (sym (also-assoc (p x) (every p xs) (every p ys)))
 
   -- a turn: where this element fails, where it holds, and the end
   module _ (xs : List A) (i : ℕ) (d : A) (h : i < length xs) where
@@ -85,6 +81,20 @@ module _ {ℓ} {A : Type ℓ} (p : A → Bool) where
     pub every-yes : every p (drop i xs) ≡ every p xs → p (getD xs i d) ≡ true → every p (drop (i + 1) xs) ≡ every p xs
     unfolding also
     every-yes e q = (λ j. also (sym q j) (every p (drop (i + 1) xs))) ∙ sym every-step ∙ e
+
+  -- the same loop without a way out, with a flag of what was seen: a turn, and the end
+  module _ (xs : List A) (i : ℕ) where
+    pub flag-turn : (d : A) (a b : Bool) → i < length xs → also a (every p (drop i xs)) ≡ every p xs → b ≡ also a (p (getD xs i d))
+        → also b (every p (drop (i + 1) xs)) ≡ every p xs
+    flag-turn d a b h e q =
+        ap (λ (x : Bool). also x (every p (drop (i + 1) xs))) q
+        ∙ also-assoc a (p (getD xs i d)) (every p (drop (i + 1) xs))
+        ∙ ap (also a) (sym (every-step xs i d h))
+        ∙ e
+
+    pub flag-end : (a : Bool) → length xs ≤ i → also a (every p (drop i xs)) ≡ every p xs → a ≡ every p xs
+    unfolding every
+    flag-end a h e = sym (also-true a) ∙ ap (λ (ys : List A). also a (every p ys)) (sym (drop-end xs i h)) ∙ e
 
   pub every-done : (xs : List A) (i : ℕ) → length xs ≤ i → every p (drop i xs) ≡ every p xs → true ≡ every p xs
   unfolding every
@@ -182,6 +192,20 @@ module _ (xs ys : List ℕ) (i : ℕ) (h : i < length xs) (k : i < length ys) wh
 pub same-done : (xs ys : List ℕ) (i : ℕ) → length xs ≤ i → length ys ≤ i → same (drop i xs) (drop i ys) ≡ same xs ys → true ≡ same xs ys
 unfolding same
 same-done xs ys i h k e = (λ j. same (sym (drop-end xs i h) j) (sym (drop-end ys i k) j)) ∙ e
+
+-- the same loop without a way out
+module _ (xs ys : List ℕ) (i : ℕ) where
+  pub same-turn : (a b : Bool) → i < length xs → i < length ys → also a (same (drop i xs) (drop i ys)) ≡ same xs ys → b ≡ also a (eqb (getD xs i 0) (getD ys i 0))
+      → also b (same (drop (i + 1) xs) (drop (i + 1) ys)) ≡ same xs ys
+  same-turn a b h k e q =
+      ap (λ (x : Bool). also x (same (drop (i + 1) xs) (drop (i + 1) ys))) q
+      ∙ also-assoc a (eqb (getD xs i 0) (getD ys i 0)) (same (drop (i + 1) xs) (drop (i + 1) ys))
+      ∙ ap (also a) (sym (same-step xs ys i h k))
+      ∙ e
+
+  pub same-end : (a : Bool) → length xs ≤ i → length ys ≤ i → also a (same (drop i xs) (drop i ys)) ≡ same xs ys → a ≡ same xs ys
+  unfolding same
+  same-end a h k e = sym (also-true a) ∙ (λ j. also a (same (sym (drop-end xs i h) j) (sym (drop-end ys i k) j))) ∙ e
 
 -- two tests that agree place by place agree as wholes
 pub every-same {ℓ κ} : {A : Type ℓ} {B : Type κ} (p : A → Bool) (q : B → Bool) (xs : List A) (ys : List B) (d : A) (e : B) → length xs ≡ length ys
