@@ -25,7 +25,7 @@ use Rattle.source.specs.JournalSystem as Y
 use Rattle.source.specs.Limits.{Limits, SystemMeets}
 use Rattle.source.specs.Departures.{Source, MachineStep, DiskInternalStep}
 use Rattle.history.specs.Ledger.{writeJournal, journalWritten, commitLog, commitLocation, superblockWritten, freeze, receive, add, land}
-use Rattle.history.specs.Calls.{tied-write, tied-written, tied-log, tied-location, tied-committed, tied-freeze, tied-receive, tied-add, tied-land, Takes}
+use Rattle.history.specs.Statement.{tied-write, tied-written, tied-log, tied-location, tied-committed, tied-freeze, tied-receive, tied-add, tied-land, Takes}
 
 abbrev pub store : M.ReadyVariables → D.Variables → Y.Variables
 store s d = record { machine = M.Variables.Ready s; disk = d }

@@ -16,7 +16,7 @@ use Rattle.source.specs.JournalSystem as Y
 use Rattle.source.specs.Limits.{limits}
 use Rattle.history.specs.Ledger.{writeJournal, journalWritten, commitLog, commitLocation, superblockWritten, freeze, receive, add, land, log, location}
 use Rattle.history.specs.Simulation.Relation.{idle, busy, toSlot}
-use Rattle.history.specs.Calls.{Takes}
+use Rattle.history.specs.Statement.{Takes}
 use Rattle.codec.specs.Format.{format, encodeBlocks}
 use Rattle.history.specs.Example.Can
 use Rattle.history.specs.Example.Can.{store}

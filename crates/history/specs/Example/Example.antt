@@ -25,9 +25,8 @@ use Rattle.source.specs.Limits.{limits}
 use Rattle.source.specs.Departures.{CrashStep}
 use Rattle.history.specs.Ledger.{Call, writeJournal, journalWritten, commitLog, commitLocation, superblockWritten, freeze, receive, add, land, crash, blocks, begin, tell, books, Shown, shown}
 use Rattle.history.specs.Simulation.Relation.{idle}
-use Rattle.history.specs.Calls.{tied-crash, Takes}
-use Rattle.history.specs.Reloaded.{shows}
-use Rattle.history.specs.Whole.{Trace, Loaded, books-append, books-loads}
+use Rattle.history.specs.Statement.{tied-crash, Takes, shows, Trace, Loaded}
+use Rattle.history.specs.Whole.Lists.{books-append, books-loads}
 use Rattle.codec.specs.Format.{format}
 use Rattle.history.specs.Loads.Superblocks.{resting, Sized, limits-room}
 use Rattle.history.specs.Demand.{demand-3}

@@ -30,8 +30,8 @@ use Rattle.source.specs.Departures.{Source, AskAgainStep, MachineStep}
 use Rattle.history.specs.Ledger.{Call, superblockRead, finishSuperblocks, finishOther, askAgain, readSuperblock, Ledger, tell}
 use Rattle.history.specs.Journal.Slots.{Slots}
 use Rattle.history.specs.Simulation.Relation.{Flight, idle}
-use Rattle.history.specs.Calls.{tied-corrupt, tied-again, tied-finish-superblocks, tied-finish-other, Takes}
-use Rattle.history.specs.Whole.{firstParity, Trace}
+use Rattle.history.specs.Statement.{tied-corrupt, tied-again, tied-finish-superblocks, tied-finish-other, Takes, Trace}
+use Rattle.history.specs.Whole.First.{firstParity}
 use Rattle.codec.specs.Format.{format}
 use Rattle.history.specs.Loads.Superblocks.{reading, resting, Sized, limits-room, disk-meets, Read, read-put, superblocksAt, one, one-differs, oneIds, ones-few, ones-waiting, ones-answered, slot-ask, slot-answer}
 use Rattle.history.specs.Loads.Journal.{otherAt}

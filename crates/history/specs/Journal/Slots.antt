@@ -28,11 +28,12 @@ next-parity counter false =
 next-parity counter true =
     by-eqb (λ (n : ℕ). (n + 0) % 2 ≡ (counter + 1) % 2) counter 18446744073709551615 0 (counter + 1) (λ e. omega arith) (λ e. omega arith)
 
-pub parity-slot : (counter : ℕ) (a b : Bool) → parity counter a ≡ parity counter b → a ≡ b
-parity-slot counter false false e = refl
-parity-slot counter false true e = absurd (omega arith)
-parity-slot counter true false e = absurd (omega arith)
-parity-slot counter true true e = refl
+-- so of counters of one parity the slot is the same, of two parities the other
+pub slot-parity : (counter first : ℕ) (which slot : Bool) → parity counter which ≡ parity first slot → which ≡ cond (eqb (counter % 2) (first % 2)) slot (not slot)
+slot-parity counter first false false e = by-eqb (λ (b : Bool). false ≡ b) (counter % 2) (first % 2) false true (λ h. refl) (λ h. absurd (omega arith))
+slot-parity counter first false true e = by-eqb (λ (b : Bool). false ≡ b) (counter % 2) (first % 2) true false (λ h. absurd (omega arith)) (λ h. refl)
+slot-parity counter first true false e = by-eqb (λ (b : Bool). true ≡ b) (counter % 2) (first % 2) false true (λ h. absurd (omega arith)) (λ h. refl)
+slot-parity counter first true true e = by-eqb (λ (b : Bool). true ≡ b) (counter % 2) (first % 2) true false (λ h. refl) (λ h. absurd (omega arith))
 
 -- no number is the second after itself
 pub never-twice : (c : ℕ) → c ≡ IncrementSuperblockCounter (IncrementSuperblockCounter c) → ⊥

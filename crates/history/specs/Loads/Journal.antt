@@ -29,8 +29,7 @@ use Rattle.codec.specs.Ranges.{whole, full-whole}
 use Rattle.history.specs.Journal.Slots.{Slots, slots-wf}
 use Rattle.history.specs.Simulation.Relation.{Pieces}
 use Rattle.history.specs.Simulation.Loading.{pieces-put}
-use Rattle.history.specs.Calls.{tied-page, tied-paged, Takes}
-use Rattle.history.specs.Whole.{Trace}
+use Rattle.history.specs.Statement.{tied-page, tied-paged, Takes, Trace}
 use Rattle.history.specs.Loads.Superblocks.{reading, resting, Sized, Room, disk-meets, joined, one, one-only, one-differs, one-answered}
 
 -- the pieces of a superblock's interval

@@ -29,10 +29,11 @@ use Rattle.history.specs.Ledger.{Call, crash, readSuperblock, superblock
 use Rattle.codec.specs.Ranges.{codes, whole, whole-full, whole-same, length-codes, parse-codes}
 use Rattle.history.specs.Journal.Slots.{Slots, picked-is, slots-wf}
 use Rattle.history.specs.Simulation.Relation.{superOf, Pieces, Sim}
-use Rattle.history.specs.Calls.{Tied, tied-finish-superblocks, tied-finish-other, tied-crash, Takes}
+use Rattle.history.specs.Statement.{Tied, tied-finish-superblocks, tied-finish-other, tied-crash, Takes, loads, readyBy, Trace, OnlyLoads, Loaded}
 use Rattle.history.specs.Simulation.Steps.{sim-step}
-use Rattle.history.specs.Reloaded.{loads, readyBy, loaded-whole}
-use Rattle.history.specs.Whole.{Trace, OnlyLoads, Loaded, sim-run, firstParity, init-sim}
+use Rattle.history.specs.Whole.Reloaded.{loaded-whole}
+use Rattle.history.specs.Whole.Lists.{sim-run}
+use Rattle.history.specs.Whole.First.{firstParity, init-sim}
 use Rattle.history.specs.Loads.Superblocks.{resting, Sized, Room, disk-meets, joined, Read, read-put, superblocksAt, machine-superblocks, slot-read}
 use Rattle.history.specs.Loads.Journal.{otherAt, Owned, machine-other, page-read, page-held, page-owned}
 

@@ -25,8 +25,7 @@ use Rattle.source.specs.Limits.{Limits, limits, BlockSize, DiskLimits, Joined, 
 use Rattle.source.specs.Departures.{Source, MachineStep}
 use Rattle.history.specs.Ledger.{readSuperblock, superblockRead}
 use Rattle.history.specs.Journal.Slots.{Slots}
-use Rattle.history.specs.Calls.{tied-read, tied-superblock, Takes}
-use Rattle.history.specs.Whole.{Trace}
+use Rattle.history.specs.Statement.{tied-read, tied-superblock, Takes, Trace}
 
 -- a disk that awaits some reads and no write
 abbrev pub reading : Two Ids → Map JournalInterval → Two (Option Superblock) → List (Option JournalBlock) → D.Variables
