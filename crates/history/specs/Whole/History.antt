@@ -24,7 +24,7 @@ use Rattle.history.specs.Whole.Lists.{sim-run, kept-run, books-loads, bo
 use Rattle.history.specs.Whole.First.{firstParity, init-sim}
 
 -- a crash leaves the machine's `Init`
-pub crash-init : (g : Geometry) (C : Codec) (L : Limits) (s t : Y.Variables) (e : Event) → Tied crash e → Allowed g C L s t e → M.Init (t .machine)
+crash-init : (g : Geometry) (C : Codec) (L : Limits) (s t : Y.Variables) (e : Event) → Tied crash e → Allowed g C L s t e → M.Init (t .machine)
 crash-init g C L s t e tied-crash a = a .step .machine
 
 module _ (g : Geometry) (C : Codec) (L : Limits) (first : Y.Variables) (loc : Location) (i : Y.Init g first loc) where
