@@ -3,7 +3,7 @@
 -- shows its ledger. So what demand 3 speaks of is there.
 use Prim.Native.Nat.{ℕ, zero, suc, _+_, _%_, _<_}
 use mathlib.Core.Bool.{Bool, true, false}
-use mathlib.Core.Path.{_≡_, refl, sym, _∙_, ap}
+use mathlib.Core.Path.{subst, _≡_, refl, sym, _∙_, ap}
 use mathlib.Core.List.{List, [], _∷_, _++_, append-nil}
 use mathlib.Core.Option.{Option, none, some}
 use mathlib.Core.Logic.{inl, ⊎-elim}
@@ -13,7 +13,7 @@ use Rattle.laws.specs.Cut.{flat}
 use Rattle.laws.specs.Sets.{Map, no-keys, bind, none-some, bind-here}
 use Rattle.laws.specs.Maps.{values-bind}
 use Rattle.interval.specs.declared.interval.JournalInterval.{JournalInterval}
-use Rattle.interval.specs.Interval.{interval}
+use Rattle.interval.specs.Interval.{interval, JournalFrontInterval, JournalBackInterval}
 use Rattle.interval.specs.Facts.{InCyclicRange}
 use Rattle.interval.specs.Journal.{JournalBlock}
 use Rattle.superblock.specs.declared.superblock.Superblock.{Superblock}
@@ -25,16 +25,18 @@ use Rattle.source.specs.JournalSystem as Y
 use Rattle.source.specs.JournalSystem.{SuperblockOfDisk}
 use Rattle.source.specs.Limits.{limits}
 use Rattle.source.specs.Departures.{CrashStep}
-use Rattle.history.specs.Ledger.{Call, writeJournal, journalWritten, commitLog, commitLocation, superblockWritten, readSuperblock, superblockRead, finishSuperblocks, finishOther, freeze, receive, add, askAgain, land, crash, nonsense, blocks, begin, tell, books, Shown, shown}
+use Rattle.history.specs.Ledger.{Call, writeJournal, journalWritten, commitLog, commitLocation, superblockWritten, readSuperblock, superblockRead, finishSuperblocks, finishOther, freeze, receive, add, askAgain, land, crash, nonsense, blocks, readJournal, journalRead, Kept, fresh, begin, tell, books, Shown, shown}
 use Rattle.history.specs.Statement.{tied-crash, Takes, shows, Loaded}
 use Rattle.history.specs.Demand.{demand-3}
 use Rattle.history.specs.Whole.Lists.{books-append, books-loads}
+use Rattle.history.specs.Loads.Comes.{loadCalls, taken}
+use Rattle.history.specs.Simulation.Relation.{superOf}
 use Rattle.history.specs.Loads.Superblocks.{resting, Sized, limits-room}
 use Rattle.history.specs.Loads.Loads.{crash-loads}
 use Rattle.history.specs.Example.Setting.{g, table1, table2, sb0, first, init, init-super, small, large, one-block, two-blocks}
 use Rattle.history.specs.Example.Walk.{Walk, there, _then_, _refused-then_, walked}
 use Rattle.history.specs.Example.Morning.{d1, d2, d3, d4, d5, d6, d7, d8, d9}
-use Rattle.history.specs.Example.States.{slots2, j4, j4-size, j4-sized, s29}
+use Rattle.history.specs.Example.States.{sb2, slots2, j4, j4-size, j4-sized, s29}
 use Rattle.history.specs.Example.Day.{d10, d11, d12, d13, d14, d15, d16, d17, d18, d19, again, d20, d21, d22, d23, d24, d25, d26, d27, d28, d29, early, outstanding, third-slot}
 
 -- the calls: a location commit before a location was received, a log commit with writes outstanding and nonsense are refused
@@ -131,28 +133,51 @@ crashed =
           };
     }
 
--- what its ledger tells: counter 2, start 2, three blocks, the short entry and then the sixteen long ones
+-- what its ledger keeps: counter 2, start 2, table 2, the range after the mark and the one that passes the ring's end
+abbrev kept : Superblock → Kept
+kept v = books g format (begin v) day answers .kept
+
+kept-is : superOf format (kept sb0) ≡ sb2
+unfolding day answers tell books blocks IncrementSuperblockCounter large
+kept-is = λ i. record { counter = 2; journalStart = (0 + (two-blocks i + 0)) % 4; journalLen = one-block i + (two-blocks i + 0); indirectionTableLoc = table2 }
+
+-- so it tells three blocks, the short entry and then the sixteen long ones
 abbrev pub told : Shown
 told = record { counter = 2; start = 2; loc = table2; blocks = 3; entries = small ++ large }
 
-day-ledger : shown format (tell g format crash (books g format (begin sb0) day answers)) ≡ told
+told-is : shown format (fresh (kept sb0)) ≡ told
 unfolding day answers tell books blocks flat IncrementSuperblockCounter large
-day-ledger =
+told-is =
     λ i. record { counter = 2; start = (0 + (two-blocks i + 0)) % 4; loc = table2; blocks = one-block i + (two-blocks i + 0); entries = small ++ append-nil large i }
 
--- the day, loaded: the machine at Ready shows what the ledger tells
-pub example : (loading : List Call) × ((loaded : List Bool) × ((r : M.ReadyVariables) × (Loaded g format limits first day answers loading loaded r × (shows r ≡ told))))
-unfolding books
-example =
-    (up .0, (up .1 .0, (up .1 .1 .0, (up .1 .1 .1, shown-is))))
-  where
-    up : (loading : List Call) × ((loaded : List Bool) × ((r : M.ReadyVariables) × Loaded g format limits first day answers loading loaded r))
-    up = crash-loads g format limits limits-room first table1 init day answers s29 s30 (walked walk) crashed j5-sized
+-- the load: both slots, and the interval in two pieces
+unfoldable pub evening : List Call
+evening =
+    readSuperblock false 1 ∷ superblockRead false 1 true ∷ readSuperblock true 1 ∷ superblockRead true 1 true ∷ finishSuperblocks
+    ∷ readJournal false 1 ∷ journalRead 1 true ∷ readJournal true 1 ∷ journalRead 1 true ∷ finishOther ∷ []
 
-    shown-is : shows (up .1 .1 .0) ≡ told
+two-pieces : loadCalls g sb2 ≡ evening
+unfolding evening JournalFrontInterval JournalBackInterval
+two-pieces = refl
+
+-- the day, loaded: the machine at Ready shows what the ledger tells
+pub example : (r : M.ReadyVariables) × Loaded g format limits first day answers evening (taken evening) r × (shows r ≡ told)
+unfolding books tell
+example = (up .0, up .1, shown-is)
+  where
+    calls-are : loadCalls g (superOf format (kept (SuperblockOfDisk g (first .disk) (init .wf)))) ≡ evening
+    calls-are = ap (λ (v : Superblock). loadCalls g (superOf format (kept v))) init-super ∙ ap (loadCalls g) kept-is ∙ two-pieces
+
+    up : (r : M.ReadyVariables) × Loaded g format limits first day answers evening (taken evening) r
+    up =
+        subst (λ (xs : List Call). (r : M.ReadyVariables) × Loaded g format limits first day answers xs (taken xs) r) calls-are
+        (crash-loads g format limits limits-room first table1 init day answers s29 s30 (walked walk) crashed j5-sized)
+
+    shown-is : shows (up .0) ≡ told
     shown-is =
-        demand-3 g first table1 init day answers (up .0) (up .1 .0) (up .1 .1 .0) day answers (up .0) (up .1 .0) (up .1 .1 .0) (up .1 .1 .1) (up .1 .1 .1) .first-shows
-        ∙ ap (shown format) (books-append g format limits (begin (SuperblockOfDisk g (first .disk) (init .wf))) first s29 day answers (crash ∷ up .0) (true ∷ up .1 .0) (walked walk))
-        ∙ ap (shown format) (books-loads g format limits (tell g format crash (books g format (begin (SuperblockOfDisk g (first .disk) (init .wf))) day answers)) (up .0) (up .1 .0) (up .1 .1 .1 .only-loads))
-        ∙ ap (λ (v : Superblock). shown format (tell g format crash (books g format (begin v) day answers))) init-super
-        ∙ day-ledger
+        demand-3 g first table1 init day answers evening (taken evening) (up .0) day answers evening (taken evening) (up .0) (up .1) (up .1) .first-shows
+        ∙ ap (shown format)
+        (books-append g format limits (begin (SuperblockOfDisk g (first .disk) (init .wf))) first s29 day answers (crash ∷ evening) (true ∷ taken evening) (walked walk)
+        ∙ books-loads g format limits (fresh (kept (SuperblockOfDisk g (first .disk) (init .wf)))) evening (taken evening) (up .1 .only-loads))
+        ∙ ap (λ (v : Superblock). shown format (fresh (kept v))) init-super
+        ∙ told-is

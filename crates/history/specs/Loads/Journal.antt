@@ -2,7 +2,7 @@
 -- state on the way meets question 2.
 use mathlib.Core.Bool.{Bool, true, false, not}
 use mathlib.Core.Path.{_≡_, refl, sym, _∙_, ap, subst}
-use mathlib.Core.List.{List, [], _∷_}
+use mathlib.Core.List.{List}
 use mathlib.Core.Option.{Option, none, some, Option·some-injective}
 use lib.ListN.{length, length-map}
 use Rattle.laws.specs.Choice.{also, also-left, also-right}
@@ -29,7 +29,8 @@ use Rattle.codec.specs.Ranges.{whole, full-whole}
 use Rattle.history.specs.Journal.Slots.{Slots, slots-wf}
 use Rattle.history.specs.Simulation.Relation.{Pieces}
 use Rattle.history.specs.Simulation.Loading.{pieces-put}
-use Rattle.history.specs.Statement.{tied-page, tied-paged, Takes, Trace}
+use Rattle.history.specs.Statement.{tied-page, tied-paged, Takes, loads}
+use Rattle.history.specs.Loads.Comes.{pieceCalls, Comes, here, by}
 use Rattle.history.specs.Loads.Superblocks.{reading, resting, Sized, Room, disk-meets, joined, one, one-only, one-differs, one-answered}
 
 -- the pieces of a superblock's interval
@@ -110,9 +111,10 @@ module _ (g : Geometry) (C : Codec) (L : Limits) (room : Room L) (slots : Two (O
   -- a piece is asked for and answered whole
   pub page-read : (which : Bool) (u : JournalInterval) (pieces : Two (Option JournalRange)) → journalIntervalOfSuperblock g which v ≡ some u → at pieces which ≡ none
       → Owned g v pieces → Pieces g v pieces j
-      → Trace g C L (record { machine = otherAt v w (both none) pieces; disk = resting slots j }) (readJournal which 1 ∷ journalRead 1 true ∷ []) (true ∷ true ∷ [])
+      → Comes g C L (record { machine = otherAt v w (both none) pieces; disk = resting slots j }) (pieceCalls which (some u))
       (record { machine = otherAt v w (both none) (put pieces which (some (Disk-JournalRange g j u))); disk = resting slots j })
-  page-read which u pieces e unread owned held = (asked, ask, (_, answer, refl))
+  unfolding loads
+  page-read which u pieces e unread owned held = by ask refl (by answer refl here)
     where
       in-place : ContiguousJournalInterval g u
       in-place = piece-contiguous g j v wf size which u e
