@@ -12,7 +12,7 @@ use Rattle.layout.specs.declared.geometry.Geometry.{Geometry}
 use Rattle.layout.specs.Geometry.{NumJournalBlocks}
 use Rattle.interval.specs.declared.interval.JournalInterval.{JournalInterval}
 use Rattle.interval.specs.Journal.{JournalBlock, CyclicSlice, fullRange}
-use Rattle.range.specs.Form.{BlockSize}
+pub use Rattle.range.specs.Form.{BlockSize}
 
 -- a run of bytes
 abbrev pub JournalEntry : Type 0

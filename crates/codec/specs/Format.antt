@@ -12,7 +12,8 @@ use Rattle.laws.specs.Choice.{also, also-left, also-right, also-both}
 use Rattle.laws.specs.Fold.{sum, every, sum-replicate}
 use Rattle.laws.specs.Cut.{cut, flat, lengths, length-cut, flat-append, lengths-cut, flat-even}
 use Rattle.range.specs.Form as Form
-use Rattle.range.specs.Form.{Entry, BlockSize, MostEntries, MostEntryLength, LengthWidth, okLength, blocksAllAt, parseAllAt}
+pub use Rattle.range.specs.Form.{MostEntries, MostEntryLength}
+use Rattle.range.specs.Form.{Entry, BlockSize, LengthWidth, okLength, blocksAllAt, parseAllAt}
 use Rattle.range.specs.Bytes.{ok-low, ok-high, ok-yes}
 use Rattle.range.specs.Blocks.{format-sizes, blocks-some, length-encodeAt}
 use Rattle.range.specs.Ranges.{parseAll-none, parseAll-parses, parseAll-entries, parseAll-append, encodeAll-one, parseAll-encodeAll, allEntries-count, allEntries-bytes, allEntries-each}
