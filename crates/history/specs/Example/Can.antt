@@ -22,7 +22,9 @@ use Rattle.source.specs.JournalDisk.{ReqId, ReqWriteJournal, ReqWriteSuperblock
 use Rattle.source.specs.JournalCache as M
 use Rattle.source.specs.JournalCache.{CommitNone, CommitAdvanceLog, CommitAdvanceLocation, WriteBackJournalReqStep, WriteBackJournalRespStep, WriteBackSuperblockReq-AdvanceLog-Step, WriteBackSuperblockReq-AdvanceLocation-Step, WriteBackSuperblockRespStep, FreezeStep, ReceiveFrozenLocStep, AdvanceStep, ifNone, toWrite, joinIds, advancedLog, advancedLocation}
 use Rattle.source.specs.JournalSystem as Y
-use Rattle.source.specs.Limits.{Limits, SystemMeets}
+use Rattle.source.specs.Limits.{Limits, Fitting}
+use Rattle.source.specs.Meets.{SystemMeets}
+use Rattle.source.specs.Laws.Format.{write-good}
 use Rattle.source.specs.Departures.{Source, MachineStep, DiskInternalStep, WriteBackJournalReq⁺, Event, Allowed}
 use Rattle.history.specs.Ledger.{writeJournal, journalWritten, commitLog, commitLocation, superblockWritten, freeze, receive, add, land}
 use Rattle.history.specs.Statement.{Tied, tied-write, tied-written, tied-log, tied-location, tied-committed, tied-freeze, tied-receive, tied-add, tied-land, Takes}
@@ -115,8 +117,11 @@ module _ {g : Geometry} {C : Codec} {L : Limits} {s : M.ReadyVariables} {d : D.V
       }
 
   -- a journal write that does not pass the ring's end, and one that does
-  module _ (good : C .good (toWrite s) ≡ true) (no-write : s .superblockWrite ≡ none) (start-in : s .superblock .journalStart < g .blocks) (fits : length (C .encode (toWrite s)) + s .writtenJournalLen ≤ g .blocks)
+  module _ (fitting : Fitting C L) (some-entry : 0 < length (toWrite s)) (no-write : s .superblockWrite ≡ none) (start-in : s .superblock .journalStart < g .blocks) (fits : length (C .encode (toWrite s)) + s .writtenJournalLen ≤ g .blocks)
       (size : length (d .journal) ≡ g .blocks) (place : JournalPosAdd g (s .superblock .journalStart) (s .writtenJournalLen) < g .blocks) (id1 : ReqId) (new1 : d .reqWriteJournals id1 ≡ none) where
+    good : C .good (toWrite s) ≡ true
+    good = write-good g C L fitting s (q .machine) some-entry
+
     writes : (id2 : Option ReqId) → WriteBackJournalReq⁺ g C (M.Variables.Ready s) (M.Variables.Ready (wroteNow C s id1 id2)) (ReqWriteJournalOp id1 id2 (request g C s)) (C .encode (toWrite s))
     writes id2 =
         record {

@@ -31,12 +31,13 @@ use Rattle.history.specs.Demand.{demand-3}
 use Rattle.history.specs.Whole.Lists.{books-append, books-loads}
 use Rattle.history.specs.Loads.Comes.{loadCalls, taken}
 use Rattle.history.specs.Simulation.Relation.{superOf}
-use Rattle.history.specs.Loads.Superblocks.{resting, Sized, limits-room}
+use Rattle.history.specs.Loads.Superblocks.{resting, limits-room}
+use Rattle.codec.specs.Codec.{Sized}
 use Rattle.history.specs.Loads.Loads.{crash-loads}
 use Rattle.history.specs.Example.Setting.{g, table1, table2, sb0, first, init, init-super, small, large, one-block, two-blocks}
 use Rattle.history.specs.Example.Walk.{Walk, there, _then_, _refused-then_, walked}
 use Rattle.history.specs.Example.Morning.{d1, d2, d3, d4, d5, d6, d7, d8, d9}
-use Rattle.history.specs.Example.States.{sb2, slots2, j4, j4-size, j4-sized, s29}
+use Rattle.history.specs.Example.States.{sb2, slots2, j4, j4-size, s29}
 use Rattle.history.specs.Example.Day.{d10, d11, d12, d13, d14, d15, d16, d17, d18, d19, again, d20, d21, d22, d23, d24, d25, d26, d27, d28, d29, early, outstanding, third-slot}
 
 -- the calls: a location commit before a location was received, a log commit with writes outstanding and nonsense are refused
@@ -81,10 +82,10 @@ abbrev s30 : Y.Variables
 s30 = record { machine = M.Variables.LoadingSuperblock M.initial; disk = resting slots2 j5 }
 
 j5-sized : Sized j5
-j5-sized zero b e = j4-sized 0 b e
+j5-sized zero b e = d29 .1 .1 .meets .disk .shape .block-size 0 b e
 j5-sized (suc zero) b e = none-some refl e
-j5-sized (suc (suc zero)) b e = j4-sized 2 b e
-j5-sized (suc (suc (suc zero))) b e = j4-sized 3 b e
+j5-sized (suc (suc zero)) b e = d29 .1 .1 .meets .disk .shape .block-size 2 b e
+j5-sized (suc (suc (suc zero))) b e = d29 .1 .1 .meets .disk .shape .block-size 3 b e
 j5-sized (suc (suc (suc (suc i)))) b e = none-some refl e
 
 -- a block that the write does not cover

@@ -1,8 +1,8 @@
 -- The example's morning: from the first disk a superblock read that comes back damaged, ask again, and the load to Ready.
 use mathlib.Core.Bool.{Bool, true, false}
-use mathlib.Core.Path.{_≡_, refl, sym, _∙_, ap, subst}
+use mathlib.Core.Path.{refl, sym, _∙_, ap, subst}
 use mathlib.Core.List.{[]}
-use mathlib.Core.Option.{Option, none, some}
+use mathlib.Core.Option.{none, some}
 use mathlib.Core.Logic.{inl}
 use native.Mathlib.Omega.{arith}
 use Rattle.interval.specs.Interval.{JournalFrontInterval, JournalBackInterval}
@@ -10,40 +10,33 @@ use Rattle.superblock.specs.declared.superblock.Superblock.{Superblock}
 use Rattle.superblock.specs.Superblock.{IncrementSuperblockCounter, increments1, SelectSuperblockIndex, SelectSuperblock}
 use Rattle.superblock.specs.Laws.{WFSuperblock}
 use Rattle.laws.specs.Sets.{Ids, no-ids, no-keys, AtMost, none-few, Two, both, at, put, none-some, at-both}
-use Rattle.source.specs.JournalDisk.{ReqId, RespReadSuperblockOp, NoDiskOp}
+use Rattle.source.specs.JournalDisk.{RespReadSuperblockOp, NoDiskOp}
 use Rattle.source.specs.JournalCache as M
 use Rattle.source.specs.JournalCache.{SuperblockReadResult, SuperblockSuccess, SuperblockUnfinished, SuperblockCorruption, PageInSuperblockRespStep, FinishLoadingSuperblockPhaseStep, FinishLoadingOtherPhaseStep}
 use Rattle.source.specs.JournalSystem as Y
-use Rattle.source.specs.Limits.{limits, MachineLimits, DiskLimits}
+use Rattle.source.specs.Limits.{limits, DiskCounts}
 use Rattle.source.specs.Departures.{Source, AskAgainStep, MachineStep}
 use Rattle.history.specs.Ledger.{superblockRead, finishSuperblocks, finishOther, askAgain, readSuperblock}
 use Rattle.history.specs.Journal.Slots.{Slots}
 use Rattle.history.specs.Simulation.Relation.{idle}
 use Rattle.history.specs.Statement.{tied-corrupt, tied-again, tied-finish-superblocks, tied-finish-other}
 use Rattle.codec.specs.Format.{format}
-use Rattle.history.specs.Loads.Superblocks.{reading, resting, limits-room, disk-meets, Read, read-put, superblocksAt, one, one-differs, oneIds, ones-few, ones-waiting, ones-answered, slot-ask, slot-answer}
+use Rattle.history.specs.Loads.Superblocks.{reading, resting, limits-room, Read, read-put, superblocksAt, one, oneIds, ones-few, ones-waiting, ones-answered, slot-ask, slot-answer}
 use Rattle.history.specs.Loads.Journal.{otherAt}
 use Rattle.history.specs.Example.Walk.{Somewhere, Step, onward}
-use Rattle.history.specs.Example.Setting.{sb0-wf, first, init, g, table1, sb0, slots0, j0, j0-sized, none-pending, dayAt, day-limits}
+use Rattle.history.specs.Example.Setting.{sb0-wf, first, init, g, table1, sb0, slots0, j0, j0-sized, none-pending, counts, dayAt}
 use Rattle.history.specs.Reach.Reachable.{reached-init}
 
 selected0 : Slots g slots0 false sb0
 unfolding SelectSuperblockIndex increments1 IncrementSuperblockCounter
 selected0 = record { values = both sb0; holds = λ b. at-both (some sb0) b ∙ ap (λ (x : Superblock). some x) (sym (at-both sb0 b)); wf = λ b. subst (WFSuperblock g) (sym (at-both sb0 b)) sb0-wf; picks = refl; is = refl }
 
--- the disk while it is only read
-disk-reading : (reads : Two Ids) → ((which : Bool) → AtMost 8 (at reads which)) → DiskLimits g limits (reading reads no-keys slots0 j0)
-disk-reading reads few = disk-meets g limits slots0 j0 false sb0 selected0 refl j0-sized reads no-keys few (none-few 8) (λ id u e. none-some refl e)
+-- the disk while only superblocks are read
+disk-reading : (reads : Two Ids) → ((which : Bool) → AtMost 8 (at reads which)) → DiskCounts limits (reading reads no-keys slots0 j0)
+disk-reading reads few = record { superblock-reads-few = few; journal-reads-few = none-few 8; journal-writes-few = none-few 16 }
 
 rest-few : (which : Bool) → AtMost 8 (at (both no-ids) which)
 rest-few which = subst (AtMost 8) (sym (at-both no-ids which)) (none-few 8)
-
--- the machine while it reads its superblocks
-slots-limits : (reads : Two (Option ReqId)) (results : Two SuperblockReadResult) → ((id : ReqId) → at reads false ≡ some id → at reads true ≡ some id → ⊥) → MachineLimits g limits (superblocksAt reads results)
-slots-limits reads results f = record { sync-few = none-few 32; reads-differ = f }
-
-none-differs : (id : ReqId) → at (both none) false ≡ some id → at (both none) true ≡ some id → ⊥
-none-differs id p q = none-some refl p
 
 abbrev reading1 : Y.Variables
 reading1 = record { machine = superblocksAt (one false) (both SuperblockUnfinished); disk = reading (oneIds false) no-keys slots0 j0 }
@@ -61,7 +54,7 @@ d0 = (_, reached-init g format limits first table1 init j0-sized)
 asks : Somewhere first → Step first (readSuperblock false 1) reading1
 asks r =
     onward (readSuperblock false 1) r (λ q. slot-ask g format limits limits-room slots0 j0 false sb0 selected0 refl j0-sized false (both SuperblockUnfinished) unread refl)
-    (slots-limits (one false) (both SuperblockUnfinished) (one-differs false)) (disk-reading (oneIds false) (λ b. ones-few 8 false b (omega arith)))
+    tt (record { sync-few = none-few 32 }) (disk-reading (oneIds false) (λ b. ones-few 8 false b (omega arith)))
 
 pub d1 : Step first (readSuperblock false 1) reading1
 d1 = asks d0
@@ -83,7 +76,7 @@ d2 =
                 };
           };
     })
-    (slots-limits (both none) (put (both SuperblockUnfinished) false SuperblockCorruption) none-differs) (disk-reading (both no-ids) rest-few)
+    tt (record { sync-few = none-few 32 }) (disk-reading (both no-ids) rest-few)
 
 -- asked again
 pub d3 : Step corrupt1 (askAgain false) first
@@ -95,7 +88,7 @@ d3 =
       tied = tied-again;
       allowed = record { meets = q; step = record { machine = record { op = refl; corrupt = refl; next = refl }; disk = record { next = refl } } };
     })
-    (slots-limits (both none) (both SuperblockUnfinished) none-differs) (disk-reading (both no-ids) rest-few)
+    tt (record { sync-few = none-few 32 }) (disk-reading (both no-ids) rest-few)
 
 -- both slots whole
 abbrev results1 : Two SuperblockReadResult
@@ -126,19 +119,19 @@ pub d5 : Step reading1 (superblockRead false 1 true) read1
 unfolding selected0
 d5 =
     onward (superblockRead false 1 true) (d4 .1) (λ q. slot-answer g format limits limits-room slots0 j0 false sb0 selected0 refl j0-sized false (both SuperblockUnfinished) unread refl)
-    (slots-limits (both none) results1 none-differs) (disk-reading (both no-ids) rest-few)
+    tt (record { sync-few = none-few 32 }) (disk-reading (both no-ids) rest-few)
 
 pub d6 : Step read1 (readSuperblock true 1) reading2
 unfolding selected0
 d6 =
     onward (readSuperblock true 1) (d5 .1) (λ q. slot-ask g format limits limits-room slots0 j0 false sb0 selected0 refl j0-sized true results1 half-read refl)
-    (slots-limits (one true) results1 (one-differs true)) (disk-reading (oneIds true) (λ b. ones-few 8 true b (omega arith)))
+    tt (record { sync-few = none-few 32 }) (disk-reading (oneIds true) (λ b. ones-few 8 true b (omega arith)))
 
 pub d7 : Step reading2 (superblockRead true 1 true) read2
 unfolding selected0
 d7 =
     onward (superblockRead true 1 true) (d6 .1) (λ q. slot-answer g format limits limits-room slots0 j0 false sb0 selected0 refl j0-sized true results1 half-read refl)
-    (slots-limits (both none) results2 none-differs) (disk-reading (both no-ids) rest-few)
+    tt (record { sync-few = none-few 32 }) (disk-reading (both no-ids) rest-few)
 
 pub d8 : Step read2 finishSuperblocks chosen
 unfolding SelectSuperblock SelectSuperblockIndex increments1 IncrementSuperblockCounter
@@ -158,7 +151,7 @@ d8 =
                 };
           };
     })
-    (record { sync-few = none-few 32; reads-differ = none-differs; read-or-in = λ b id jr p q. none-some (at-both none b) p; piece-len = λ b jr v p q. none-some (at-both none b) p })
+    tt (record { sync-few = none-few 32 })
     (disk-reading (both no-ids) rest-few)
 
 abbrev pub started : Y.Variables
@@ -206,4 +199,4 @@ d9 =
                 };
           };
     })
-    (day-limits sb0 false 0 0 false none [] [] no-ids idle (none-few 16) none-pending) (disk-reading (both no-ids) rest-few)
+    tt (counts refl (none-few 16) none-pending) (disk-reading (both no-ids) rest-few)

@@ -1,46 +1,42 @@
 -- The setting of the example: a ring of four blocks and tables of up to 4,096 bytes; both slots at counter 0, start 0, len 0, and no block
 -- readable; two lots of entries, of one block and of two; and machine and disk of the day as functions of what changes.
-use Prim.Native.Nat.{ℕ, zero, suc, _+_, _≤_, _<_}
-use mathlib.Core.Bool.{Bool, true, cond}
+use Prim.Native.Nat.{ℕ, zero, suc, _+_, _≤_}
+use mathlib.Core.Bool.{Bool}
 use mathlib.Core.Path.{_≡_, refl, sym, _∙_, ap, subst}
 use mathlib.Core.List.{List, [], _∷_}
-use mathlib.Core.Option.{Option, none, some, Option·some-injective}
+use mathlib.Core.Option.{Option, none, some}
 use mathlib.Core.Logic.{inl, inr}
 use native.Mathlib.Omega.{arith}
-use lib.Dec.{ltb}
-use lib.ListN.{length, getD, replicate, length-replicate, getD-replicate, List·getD-eq-default}
-use Rattle.laws.specs.Choice.{also, by-ltb, split-le}
-use Rattle.laws.specs.Fold.{sum, every}
-use Rattle.laws.specs.Ring.{off}
+use lib.ListN.{length, replicate}
+use Rattle.laws.specs.Fold.{sum}
 use Rattle.laws.specs.Cut.{lengths}
-use Rattle.laws.specs.Maps.{values-bind, Values}
-use Rattle.interval.specs.Interval.{interval}
-use Rattle.laws.specs.Sets.{join, bind, idsOf, Ids, no-ids, Map, no-keys, keys, AtMost, none-few, Two, both, none-some, at-both}
+use Rattle.laws.specs.Sets.{Ids, no-ids, join, Map, no-keys, bind, keys, AtMost, none-few, idsOf, Two, both, none-some, at-both}
+use Rattle.laws.specs.Maps.{keys-one, keys-bind, one-few}
 use Rattle.layout.specs.declared.geometry.Geometry.{Geometry}
 use Rattle.layout.specs.declared.location.Location.{Location}
+use Rattle.layout.specs.Geometry.{ValidGeometry}
 use Rattle.layout.specs.Laws.{ValidIndirectionTableLocation}
 use Rattle.interval.specs.declared.interval.JournalInterval.{JournalInterval}
-use Rattle.interval.specs.Facts.{ValidJournalInterval, ContiguousJournalInterval}
 use Rattle.interval.specs.Journal.{JournalBlock}
-use Rattle.interval.specs.Laws.{splice-value-off}
-use Rattle.interval.specs.Update.{updated, updated-at, length-updated}
 use Rattle.superblock.specs.declared.superblock.Superblock.{Superblock}
-use Rattle.range.specs.Form.{blocksAt, okLength}
-use Rattle.codec.specs.Codec.{JournalEntry}
-use Rattle.codec.specs.Format.{format, goodEntries, encodeBlocks, length-encodeBlocks, lengths-encodeBlocks}
+use Rattle.superblock.specs.Superblock.{IncrementSuperblockCounter, increments1, SelectSuperblockIndex, SelectSuperblock}
+use Rattle.superblock.specs.Laws.{WFSuperblock}
+use Rattle.codec.specs.Codec.{JournalEntry, Sized, EntriesFit}
+use Rattle.codec.specs.Format.{encodeBlocks, length-encodeBlocks}
 use Rattle.source.specs.JournalDisk as D
 use Rattle.source.specs.JournalDisk.{ReqWriteSuperblockId}
 use Rattle.source.specs.JournalCache as M
-use Rattle.source.specs.Limits.{limits, EntriesFit, MachineLimits, DiskLimits}
-use Rattle.history.specs.Simulation.Relation.{Flight}
 use Rattle.source.specs.JournalSystem as Y
 use Rattle.source.specs.JournalSystem.{SuperblockOfDisk}
-use Rattle.superblock.specs.Superblock.{IncrementSuperblockCounter, increments1, SelectSuperblockIndex, SelectSuperblock}
-use Rattle.superblock.specs.Laws.{WFSuperblock}
-use Rattle.history.specs.Loads.Superblocks.{resting, Sized}
+use Rattle.source.specs.Limits.{limits, MachineCounts, DiskCounts}
+use Rattle.history.specs.Simulation.Relation.{Flight}
+use Rattle.history.specs.Loads.Superblocks.{resting}
 
 abbrev pub g : Geometry
 g = record { blocks = 4; table = 4096 }
+
+pub g-valid : ValidGeometry g
+g-valid = record { some-block = omega arith; most-blocks = omega arith; some-table = omega arith; most-table = omega arith }
 
 abbrev pub table1 : Location
 table1 = record { addr = 24576; len = 4096 }
@@ -111,89 +107,51 @@ pub two-blocks : length (encodeBlocks large) ≡ 2
 unfolding large sum lengths
 two-blocks = length-encodeBlocks large
 
-pub small-good : format .good small ≡ true
-unfolding small goodEntries every lengths okLength also
-small-good = refl
+-- they are few, and each fits
+pub small-few : length small ≤ 16
+unfolding small
+small-few = omega arith
 
-pub large-good : format .good large ≡ true
-unfolding large goodEntries every lengths okLength also
-large-good = refl
+pub small-fit : EntriesFit 255 small
+unfolding small
+small-fit = (record { some-byte = omega arith; most-bytes = omega arith }, tt)
 
--- they are within the limits of what is pending
+pub large-few : length large ≤ 16
+unfolding large
+large-few = omega arith
+
+pub large-fit : EntriesFit 255 large
+unfolding large
+large-fit = long 16
+  where
+    long : (n : ℕ) → EntriesFit 255 (replicate n (replicate 255 66))
+    long zero = tt
+    long (suc n) = (record { some-byte = omega arith; most-bytes = omega arith }, long n)
+
+-- what is pending, frozen and in memory, is within the limits
 pub record Pending (frozen memory : List JournalEntry) : Type 0 where
   pub few : length frozen + length memory ≤ 1024
   pub bytes : sum (lengths frozen) + sum (lengths memory) ≤ 65536
-  pub frozen-fit : EntriesFit limits frozen
-  pub memory-fit : EntriesFit limits memory
-
-none-fit : EntriesFit limits []
-none-fit = record { some-byte = λ i h. absurd (omega arith); most-bytes = λ i h. absurd (omega arith) }
-
-small-fit : EntriesFit limits small
-unfolding small
-small-fit = record { some-byte = low; most-bytes = high }
-  where
-    low : (i : ℕ) → i < 1 → 1 ≤ length (getD small i [])
-    low zero h = omega arith
-    low (suc i) h = absurd (omega arith)
-
-    high : (i : ℕ) → i < 1 → length (getD small i []) ≤ 255
-    high zero h = omega arith
-    high (suc i) h = absurd (omega arith)
-
-large-fit : EntriesFit limits large
-unfolding large
-large-fit = record { some-byte = λ i h. rw (at-large i h) (omega arith); most-bytes = λ i h. rw (at-large i h) (omega arith) }
-  where
-    at-large : (i : ℕ) → i < length large → length (getD large i []) ≡ 255
-    at-large i h = ap length (getD-replicate 16 i (replicate 255 66) [] (omega arith)) ∙ length-replicate {A = ℕ} 255 66
 
 pub none-pending : Pending [] []
 unfolding sum lengths
-none-pending = record { few = omega arith; bytes = omega arith; frozen-fit = none-fit; memory-fit = none-fit }
+none-pending = record { few = omega arith; bytes = omega arith }
 
 pub small-pending : Pending [] small
 unfolding small sum lengths
-small-pending = record { few = omega arith; bytes = omega arith; frozen-fit = none-fit; memory-fit = small-fit }
+small-pending = record { few = omega arith; bytes = omega arith }
 
 pub large-pending : Pending [] large
 unfolding large sum lengths
-large-pending = record { few = omega arith; bytes = omega arith; frozen-fit = none-fit; memory-fit = large-fit }
+large-pending = record { few = omega arith; bytes = omega arith }
 
 pub large-frozen : Pending large []
 unfolding large sum lengths
-large-frozen = record { few = omega arith; bytes = omega arith; frozen-fit = large-fit; memory-fit = none-fit }
+large-frozen = record { few = omega arith; bytes = omega arith }
 
 pub both-pending : Pending large small
 unfolding small large sum lengths
-both-pending = record { few = omega arith; bytes = omega arith; frozen-fit = large-fit; memory-fit = small-fit }
-
-pub at-lengths : (bs : List JournalBlock) (k : ℕ) → k < length bs → getD (lengths bs) k 0 ≡ length (getD bs k [])
-unfolding lengths
-at-lengths [] k h = absurd (omega arith)
-at-lengths (b ∷ bs) zero h = refl
-at-lengths (b ∷ bs) (suc k) h = at-lengths bs k (omega arith)
-
--- blocks of a range have their size, and a write of them keeps the journal's
-pub block-size : (es : List JournalEntry) (k : ℕ) → k < length (encodeBlocks es) → length (getD (encodeBlocks es) k []) ≡ 4096
-block-size es k h =
-    sym (at-lengths (encodeBlocks es) k h)
-    ∙ ap (λ (l : List ℕ). getD l k 0) (lengths-encodeBlocks es)
-    ∙ getD-replicate (blocksAt 1 es) k 4096 0 (omega (arith, h, length-encodeBlocks es))
-
-pub sized-updated : (j : List (Option JournalBlock)) (v : JournalInterval) (es : List JournalEntry) → length j ≡ 4 → ValidJournalInterval g v → v .len ≡ length (encodeBlocks es) → Sized j
-    → Sized (updated j v (encodeBlocks es))
-sized-updated j v es hj f hn s i b e =
-    split-le 4 i
-    (λ h. none-some (List·getD-eq-default (updated j v (encodeBlocks es)) none (omega (arith, h, length-updated g j v (encodeBlocks es) hj f hn))) e)
-    (λ h.
-    go h (sym (updated-at g j v (encodeBlocks es) hj f hn i (omega (arith, h, hj)) ∙ splice-value-off g v f i h j (encodeBlocks es)) ∙ e))
-  where
-    go : i < 4 → cond (ltb (off 4 (v .start) i) (v .len)) (some (getD (encodeBlocks es) (off 4 (v .start) i) [])) (getD j i none) ≡ some b → length b ≡ 4096
-    go h =
-        by-ltb (λ (o : Option JournalBlock). o ≡ some b → length b ≡ 4096) (off 4 (v .start) i) (v .len) _ _
-        (λ l q. ap length (Option·some-injective b _ (sym q)) ∙ block-size es (off 4 (v .start) i) (omega (arith, l, hn)))
-        (λ l q. s i b q)
+both-pending = record { few = omega arith; bytes = omega arith }
 
 -- a machine of this day at Ready: nothing to replay, no sync request
 abbrev pub dayAt : Superblock → Bool → ℕ → ℕ → Bool → Option Location → List JournalEntry → List JournalEntry → Ids → Flight → M.ReadyVariables
@@ -215,46 +173,34 @@ dayAt sb which len position isFrozen loc frozen memory ids f =
       syncReqs = no-keys;
     }
 
-pub day-limits : (sb : Superblock) (which : Bool) (len position : ℕ) (isFrozen : Bool) (loc : Option Location) (frozen memory : List JournalEntry) (ids : Ids) (f : Flight) → AtMost 16 ids → Pending frozen memory
-    → MachineLimits g limits (M.Variables.Ready (dayAt sb which len position isFrozen loc frozen memory ids f))
-unfolding sum lengths
-day-limits sb which len position isFrozen loc frozen memory ids f few p =
-    record {
-      sync-few = none-few 32;
-      writes-few = few;
-      pending-few = p .few;
-      pending-small = p .bytes;
-      frozen-fit = p .frozen-fit;
-      memory-fit = p .memory-fit;
-      replay-few = omega arith;
-      replay-small = omega arith;
-      replay-fit = none-fit;
-    }
-
 -- the disk of this day: nothing is read
 abbrev pub dayDisk : Two (Option ReqWriteSuperblockId) → Map JournalInterval → Two (Option Superblock) → List (Option JournalBlock) → D.Variables
 dayDisk sw writes slots j =
     record { reqReadSuperblocks = both no-ids; reqReadJournals = no-keys; reqWriteSuperblocks = sw; reqWriteJournals = writes; superblocks = slots; journal = j }
 
-pub writing : (sw : Two (Option ReqWriteSuperblockId)) (writes : Map JournalInterval) (slots : Two (Option Superblock)) (j : List (Option JournalBlock)) → AtMost 16 (keys writes)
-    → Values (ContiguousJournalInterval g) writes → length j ≡ 4 → Sized j → DiskLimits g limits (dayDisk sw writes slots j)
-writing sw writes slots j few contiguous size sized =
+-- the counts of both
+pub counts : {s : M.ReadyVariables} → s .syncReqs ≡ no-keys → AtMost 16 (s .outstandingJournalWrites) → Pending (s .inMemoryJournalFrozen) (s .inMemoryJournal) → MachineCounts limits (M.Variables.Ready s)
+counts e few p = record { sync-few = subst (λ (m : Map M.SyncReqStatus). AtMost 32 (keys m)) (sym e) (none-few 32); writes-few = few; pending-few = p .few; pending-small = p .bytes }
+
+pub writing : {sw : Two (Option ReqWriteSuperblockId)} {writes : Map JournalInterval} {slots : Two (Option Superblock)} {j : List (Option JournalBlock)} → AtMost 16 (keys writes)
+    → DiskCounts limits (dayDisk sw writes slots j)
+writing few =
     record {
       superblock-reads-few = λ which. subst (AtMost 8) (sym (at-both no-ids which)) (none-few 8);
       journal-reads-few = none-few 8;
       journal-writes-few = few;
-      reads-contiguous = λ id v e. none-some refl e;
-      writes-contiguous = contiguous;
-      size = size;
-      block-size = sized;
     }
 
-pub quiet : (sw : Two (Option ReqWriteSuperblockId)) (slots : Two (Option Superblock)) (j : List (Option JournalBlock)) → length j ≡ 4 → Sized j → DiskLimits g limits (dayDisk sw no-keys slots j)
-quiet sw slots j size sized = writing sw no-keys slots j (none-few 16) (λ id v e. none-some refl e) size sized
+-- one write in flight, and two
+pub one-id : (k : ℕ) → AtMost 16 (join no-ids k)
+one-id k = one-few 16 k (omega arith)
 
-pub two-few : AtMost 16 (join (join no-ids 4) 5)
+pub one-write : (k : ℕ) (v : JournalInterval) → AtMost 16 (keys (bind no-keys k v))
+one-write k v = subst (AtMost 16) (sym (keys-one k v)) (one-id k)
+
+pub two-ids : (k i : ℕ) → AtMost 16 (join (join no-ids k) i)
 unfolding idsOf
-two-few = record { listed = 5 ∷ 4 ∷ []; few = omega arith; all = λ i e. e }
+two-ids k i = record { listed = i ∷ k ∷ []; few = omega arith; all = λ x e. e }
 
-pub one-piece : (id start len : ℕ) → start < 4 → start + len ≤ 4 → Values (ContiguousJournalInterval g) (bind no-keys id (interval start len))
-one-piece id start len h k = values-bind (ContiguousJournalInterval g) no-keys id (interval start len) (λ i v e. none-some refl e) (record { valid = record { start-in = h; len-in = omega arith }; end-in = k })
+pub two-writes : (k i : ℕ) (v u : JournalInterval) → AtMost 16 (keys (bind (bind no-keys k v) i u))
+two-writes k i v u = subst (AtMost 16) (sym (keys-bind (bind no-keys k v) i u ∙ ap (λ (s : Ids). join s i) (keys-one k v))) (two-ids k i)

@@ -6,19 +6,18 @@ use mathlib.Core.Option.{Option, none, some}
 use native.Mathlib.Omega.{arith}
 use lib.ListN.{length}
 use Rattle.laws.specs.Sets.{no-ids, join, no-keys, bind, Two, both}
-use Rattle.interval.specs.Interval.{interval}
 use Rattle.interval.specs.Journal.{JournalBlock}
-use Rattle.interval.specs.Update.{updated, length-updated}
 use Rattle.superblock.specs.declared.superblock.Superblock.{Superblock}
 use Rattle.codec.specs.Format.{encodeBlocks}
 use Rattle.source.specs.JournalDisk as D
 use Rattle.source.specs.JournalCache as M
-use Rattle.history.specs.Simulation.Relation.{idle, busy, toSlot}
-use Rattle.history.specs.Loads.Superblocks.{Sized}
 use Rattle.source.specs.JournalSystem as Y
+use Rattle.history.specs.Simulation.Relation.{idle, busy, toSlot}
+use Rattle.interval.specs.Interval.{interval}
+use Rattle.interval.specs.Update.{updated, length-updated}
 use Rattle.history.specs.Ledger.{log, location}
 use Rattle.history.specs.Example.Can.{store}
-use Rattle.history.specs.Example.Setting.{g, table2, sb0, slots0, j0, j0-sized, small, large, one-block, two-blocks, sized-updated, dayAt, dayDisk}
+use Rattle.history.specs.Example.Setting.{g, table2, sb0, slots0, j0, small, large, one-block, two-blocks, dayAt, dayDisk}
 
 -- superblocks, slots and journals
 abbrev pub sb1 : Superblock
@@ -40,20 +39,12 @@ pub j1-size : length j1 ≡ 4
 unfolding j1
 j1-size = length-updated g j0 (interval 0 2) (encodeBlocks large) refl (record { start-in = omega arith; len-in = omega arith }) (sym two-blocks)
 
-pub j1-sized : Sized j1
-unfolding j1
-j1-sized = sized-updated j0 (interval 0 2) large refl (record { start-in = omega arith; len-in = omega arith }) (sym two-blocks) j0-sized
-
 unfoldable pub j2 : List (Option JournalBlock)
 j2 = updated j1 (interval 2 1) (encodeBlocks small)
 
 pub j2-size : length j2 ≡ 4
 unfolding j2
 j2-size = length-updated g j1 (interval 2 1) (encodeBlocks small) j1-size (record { start-in = omega arith; len-in = omega arith }) (sym one-block)
-
-pub j2-sized : Sized j2
-unfolding j2
-j2-sized = sized-updated j1 (interval 2 1) small j1-size (record { start-in = omega arith; len-in = omega arith }) (sym one-block) j1-sized
 
 unfoldable pub j3 : List (Option JournalBlock)
 j3 = updated j2 (interval 3 2) (encodeBlocks large)
@@ -62,20 +53,12 @@ pub j3-size : length j3 ≡ 4
 unfolding j3
 j3-size = length-updated g j2 (interval 3 2) (encodeBlocks large) j2-size (record { start-in = omega arith; len-in = omega arith }) (sym two-blocks)
 
-pub j3-sized : Sized j3
-unfolding j3
-j3-sized = sized-updated j2 (interval 3 2) large j2-size (record { start-in = omega arith; len-in = omega arith }) (sym two-blocks) j2-sized
-
 unfoldable pub j4 : List (Option JournalBlock)
 j4 = updated j3 (interval 1 1) (encodeBlocks small)
 
 pub j4-size : length j4 ≡ 4
 unfolding j4
 j4-size = length-updated g j3 (interval 1 1) (encodeBlocks small) j3-size (record { start-in = omega arith; len-in = omega arith }) (sym one-block)
-
-pub j4-sized : Sized j4
-unfolding j4
-j4-sized = sized-updated j3 (interval 1 1) small j3-size (record { start-in = omega arith; len-in = omega arith }) (sym one-block) j3-sized
 
 -- the store after each call that is taken
 abbrev pub s9 : Y.Variables
