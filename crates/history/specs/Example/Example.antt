@@ -8,7 +8,7 @@ use mathlib.Core.List.{List, [], _∷_, _++_, append-nil}
 use mathlib.Core.Option.{Option, none, some}
 use mathlib.Core.Logic.{inl, ⊎-elim}
 use native.Mathlib.Omega.{arith}
-use lib.ListN.{getD}
+use lib.ListN.{length, getD}
 use Rattle.laws.specs.Cut.{flat}
 use Rattle.laws.specs.Sets.{Map, no-keys, bind, none-some, bind-here}
 use Rattle.laws.specs.Maps.{values-bind}
@@ -37,7 +37,7 @@ use Rattle.history.specs.Loads.Loads.{crash-loads}
 use Rattle.history.specs.Example.Setting.{g, table1, table2, sb0, first, init, init-super, small, large, one-block, two-blocks}
 use Rattle.history.specs.Example.Walk.{Walk, there, _then_, _refused-then_, walked}
 use Rattle.history.specs.Example.Morning.{d1, d2, d3, d4, d5, d6, d7, d8, d9}
-use Rattle.history.specs.Example.States.{sb2, slots2, j4, j4-size, s29}
+use Rattle.history.specs.Example.States.{sb2, slots2, j4, s29}
 use Rattle.history.specs.Example.Day.{d10, d11, d12, d13, d14, d15, d16, d17, d18, d19, again, d20, d21, d22, d23, d24, d25, d26, d27, d28, d29, early, outstanding, third-slot}
 
 -- the calls: a location commit before a location was received, a log commit with writes outstanding and nonsense are refused
@@ -105,6 +105,9 @@ pictured-blocks (suc zero) h f = refl
 pictured-blocks (suc (suc zero)) h f = absurd (f (untouched 2 (⊎-elim (λ r. omega arith) (λ r. omega arith))))
 pictured-blocks (suc (suc (suc zero))) h f = absurd (f (untouched 3 (⊎-elim (λ r. omega arith) (λ r. omega arith))))
 pictured-blocks (suc (suc (suc (suc i)))) h f = absurd (omega arith)
+
+j4-size : length j4 ≡ 4
+j4-size = d29 .1 .1 .meets .disk .shape .size
 
 crashed : Takes g format limits s29 s30 crash
 crashed =

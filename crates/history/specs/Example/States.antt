@@ -1,10 +1,7 @@
 -- The example day's states: its superblocks and journals, and the store after each call that is taken.
 use mathlib.Core.Bool.{true, false}
-use mathlib.Core.Path.{_≡_, refl, sym}
 use mathlib.Core.List.{List, []}
 use mathlib.Core.Option.{Option, none, some}
-use native.Mathlib.Omega.{arith}
-use lib.ListN.{length}
 use Rattle.laws.specs.Sets.{no-ids, join, no-keys, bind, Two, both}
 use Rattle.interval.specs.Journal.{JournalBlock}
 use Rattle.superblock.specs.declared.superblock.Superblock.{Superblock}
@@ -14,10 +11,10 @@ use Rattle.source.specs.JournalCache as M
 use Rattle.source.specs.JournalSystem as Y
 use Rattle.history.specs.Simulation.Relation.{idle, busy, toSlot}
 use Rattle.interval.specs.Interval.{interval}
-use Rattle.interval.specs.Update.{updated, length-updated}
+use Rattle.interval.specs.Update.{updated}
 use Rattle.history.specs.Ledger.{log, location}
 use Rattle.history.specs.Example.Can.{store}
-use Rattle.history.specs.Example.Setting.{g, table2, sb0, slots0, j0, small, large, one-block, two-blocks, dayAt, dayDisk}
+use Rattle.history.specs.Example.Setting.{table2, sb0, slots0, j0, small, large, dayAt, dayDisk}
 
 -- superblocks, slots and journals
 abbrev pub sb1 : Superblock
@@ -35,30 +32,14 @@ slots2 = record { first = some sb2; second = some sb1 }
 unfoldable pub j1 : List (Option JournalBlock)
 j1 = updated j0 (interval 0 2) (encodeBlocks large)
 
-pub j1-size : length j1 ≡ 4
-unfolding j1
-j1-size = length-updated g j0 (interval 0 2) (encodeBlocks large) refl (record { start-in = omega arith; len-in = omega arith }) (sym two-blocks)
-
 unfoldable pub j2 : List (Option JournalBlock)
 j2 = updated j1 (interval 2 1) (encodeBlocks small)
-
-pub j2-size : length j2 ≡ 4
-unfolding j2
-j2-size = length-updated g j1 (interval 2 1) (encodeBlocks small) j1-size (record { start-in = omega arith; len-in = omega arith }) (sym one-block)
 
 unfoldable pub j3 : List (Option JournalBlock)
 j3 = updated j2 (interval 3 2) (encodeBlocks large)
 
-pub j3-size : length j3 ≡ 4
-unfolding j3
-j3-size = length-updated g j2 (interval 3 2) (encodeBlocks large) j2-size (record { start-in = omega arith; len-in = omega arith }) (sym two-blocks)
-
 unfoldable pub j4 : List (Option JournalBlock)
 j4 = updated j3 (interval 1 1) (encodeBlocks small)
-
-pub j4-size : length j4 ≡ 4
-unfolding j4
-j4-size = length-updated g j3 (interval 1 1) (encodeBlocks small) j3-size (record { start-in = omega arith; len-in = omega arith }) (sym one-block)
 
 -- the store after each call that is taken
 abbrev pub s9 : Y.Variables
