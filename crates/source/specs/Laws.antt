@@ -12,3 +12,4 @@ pub mod ShapeMachine
 pub mod ShapeDisk
 pub mod Kept
 pub mod Format
+pub mod Bounds
