@@ -21,21 +21,25 @@ use Rattle.codec.specs.Codec.{JournalRange, SizedBlocks, EntriesFit, Cod
 use Rattle.codec.specs.Ranges.{Range, blocks}
 
 -- the test of what one range can hold: from 1 to 1,024 entries of 1 to 255 bytes
+abbrev pub MostHeld : ℕ
+MostHeld = MostEntries
+
 unfoldable pub goodEntries : List Entry → Bool
 goodEntries es =
     also (leb 1 (length es))
-    (also (leb (length es) MostEntries)
+    (also (leb (length es) MostHeld)
     (every (okLength MostEntryLength) (lengths es)))
 
 pub good-facts : (es : List Entry) → goodEntries es ≡ true → Form.Good MostEntryLength es
 unfolding goodEntries
 good-facts es e =
     let e1 = also-right _ _ e in
-    record { any = leb-true 1 (length es) (also-left _ _ e); few = leb-true (length es) MostEntries (also-left _ _ e1); each = also-right _ _ e1 }
+    let few = leb-true (length es) MostHeld (also-left _ _ e1) in
+    record { any = leb-true 1 (length es) (also-left _ _ e); few = omega arith; each = also-right _ _ e1 }
 
 pub facts-good : (es : List Entry) → Form.Good MostEntryLength es → goodEntries es ≡ true
 unfolding goodEntries
-facts-good es f = also-both _ _ (le-leb 1 (length es) (f .any)) (also-both _ _ (le-leb (length es) MostEntries (f .few)) (f .each))
+facts-good es f = also-both _ _ (le-leb 1 (length es) (f .any)) (also-both _ _ (le-leb (length es) MostHeld (omega (arith, f .few))) (f .each))
 
 -- entries fit where the test of each length says so
 pub fit-lengths : (most : ℕ) (es : List Entry) → EntriesFit most es → every (okLength most) (lengths es) ≡ true

@@ -1,4 +1,5 @@
 -- Laws about the relations, which a reader of the relations need not read.
+pub mod Cases
 pub mod Initial
 pub mod Unique
 pub mod Answers
@@ -11,4 +12,6 @@ pub mod ShapeReady
 pub mod ShapeMachine
 pub mod ShapeDisk
 pub mod Kept
+pub mod Sync
 pub mod Format
+pub mod Bounds

@@ -158,7 +158,7 @@ reached-step g C L fits p s t l x r h w =
     record {
       sim = z;
       neat = n;
-      meets = neat-meets g C p L (t .machine) (t .disk) (tell g C x l) z n (halves-kept g C L fits s t (h .event) (h .allowed) w);
+      meets = neat-meets g C p L (t .machine) (t .disk) (tell g C x l) z n (halves-kept g C L s t fits (h .event) (h .allowed) w);
     }
 
 -- every accepted call is within the limits
