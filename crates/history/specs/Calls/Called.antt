@@ -11,24 +11,19 @@ use Rattle.source.specs.JournalCache.{WriteBackJournalReqStep, WriteBackJournal
 use Rattle.source.specs.JournalSystem as Y
 use Rattle.source.specs.Limits.{Limits}
 use Rattle.source.specs.Departures.{Step⁺, Source, DamagedJournalStep, AskAgainStep, Event, MachineStep, DiskInternalStep, CrashStep, DamagedJournalClauses, AskAgainClauses, NextStep⁺, Allowed}
+use Rattle.source.specs.Laws.Cases.{by-ready, by-other, by-superblock}
 use Rattle.history.specs.Statement.{Tied, tied-write, tied-written, unawaited-written, tied-log, tied-location, tied-committed, unawaited-committed, tied-page, tied-paged, tied-damaged, unawaited-paged, unawaited-damaged, tied-read, tied-superblock, tied-corrupt, unawaited-superblock, unawaited-corrupt, tied-finish-superblocks, tied-finish-other, tied-freeze, tied-receive, tied-add, tied-replay, tied-push, tied-pop, tied-no-op, tied-again, tied-land, tied-crash, Takes}
 use Rattle.history.specs.Ledger.{nonsense, Call, writeJournal, journalWritten, commitLog, commitLocation, superblockWritten, readJournal, journalRead, readSuperblock, superblockRead, finishSuperblocks, finishOther, freeze, receive, add, replay, pushSync, popSync, noOp, askAgain, land, crash}
 
 -- the parts of a predicate that names a kind of machine
 ready-of : (m : M.Variables) (P : M.ReadyVariables → Type 0) → M.isReady m P → (s : M.ReadyVariables) × P s
-ready-of (M.Variables.Ready s) P h = (s, h)
-ready-of (M.Variables.LoadingOther s) P h = absurd h
-ready-of (M.Variables.LoadingSuperblock s) P h = absurd h
+ready-of m P h = by-ready (λ (x : M.Variables). (s : M.ReadyVariables) × P s) m P (λ s k. (s, k)) h
 
 other-of : (m : M.Variables) (P : M.LoadingOtherVariables → Type 0) → M.isLoadingOther m P → (s : M.LoadingOtherVariables) × P s
-other-of (M.Variables.Ready s) P h = absurd h
-other-of (M.Variables.LoadingOther s) P h = (s, h)
-other-of (M.Variables.LoadingSuperblock s) P h = absurd h
+other-of m P h = by-other (λ (x : M.Variables). (s : M.LoadingOtherVariables) × P s) m P (λ s k. (s, k)) h
 
 superblock-of : (m : M.Variables) (P : M.LoadingSuperblockVariables → Type 0) → M.isLoadingSuperblock m P → (s : M.LoadingSuperblockVariables) × P s
-superblock-of (M.Variables.Ready s) P h = absurd h
-superblock-of (M.Variables.LoadingOther s) P h = absurd h
-superblock-of (M.Variables.LoadingSuperblock s) P h = (s, h)
+superblock-of m P h = by-superblock (λ (x : M.Variables). (s : M.LoadingSuperblockVariables) × P s) m P (λ s k. (s, k)) h
 
 abbrev Called : Event → Type 0
 Called e = (x : Call) × Tied x e

@@ -10,7 +10,7 @@ use native.Mathlib.Omega.{arith}
 use lib.ListN.{length, replicate}
 use Rattle.laws.specs.Fold.{sum}
 use Rattle.laws.specs.Cut.{lengths}
-use Rattle.laws.specs.Sets.{Ids, no-ids, join, Map, no-keys, bind, keys, AtMost, none-few, idsOf, Two, both, none-some, at-both}
+use Rattle.laws.specs.Sets.{Ids, no-ids, join, Map, no-keys, bind, keys, AtMost, none-few, listed-few, idsOf, Two, both, none-some, at-both}
 use Rattle.laws.specs.Maps.{keys-one, keys-bind, one-few}
 use Rattle.layout.specs.declared.geometry.Geometry.{Geometry}
 use Rattle.layout.specs.declared.location.Location.{Location}
@@ -200,7 +200,7 @@ one-write k v = subst (AtMost 16) (sym (keys-one k v)) (one-id k)
 
 pub two-ids : (k i : ℕ) → AtMost 16 (join (join no-ids k) i)
 unfolding idsOf
-two-ids k i = record { listed = i ∷ k ∷ []; few = omega arith; all = λ x e. e }
+two-ids k i = listed-few 16 (i ∷ k ∷ []) (omega arith)
 
 pub two-writes : (k i : ℕ) (v u : JournalInterval) → AtMost 16 (keys (bind (bind no-keys k v) i u))
 two-writes k i v u = subst (AtMost 16) (sym (keys-bind (bind no-keys k v) i u ∙ ap (λ (s : Ids). join s i) (keys-one k v))) (two-ids k i)
