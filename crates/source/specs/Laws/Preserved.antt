@@ -15,12 +15,13 @@ use Rattle.laws.specs.Sets.{Map, bind, unbind, at, put, none-some, at-both}
 use Rattle.codec.specs.Codec.{JournalRange, Codec}
 use Rattle.source.specs.JournalDisk.{ReqId, DiskOp}
 use Rattle.source.specs.JournalCache
-use Rattle.source.specs.Departures.{DamagedJournalClauses, AskAgainClauses, Step⁺, Source, DamagedJournalStep, AskAgainStep, NextStep⁺, source-next}
+use Rattle.source.specs.Departures.{DamagedJournalClauses, AskAgainClauses, Step⁺, Source, DamagedJournalStep, AskAgainStep, NextStep⁺}
 use Rattle.source.specs.JournalCache.{Variables, Ready, LoadingOther, LoadingSuperblock, ReadyVariables, LoadingOtherVariables, LoadingSuperblockVariables, SyncReqStatus, State3, SuperblockReadResult, SuperblockSuccess, SuperblockUnfinished, SuperblockCorruption}
 use Rattle.source.specs.JournalCache.{to-superblocks, to-outstandingSuperblockReads, superblockRead, journalIntervalOfSuperblock, withSyncReqs, syncReqsOf, unlessIs, selectedSecond}
 use Rattle.source.specs.JournalCache.{InvLoadingSuperblock, InvLoadingOther, InvReady, Inv, NextStep}
 use Rattle.source.specs.JournalCache.{Step, WriteBackJournalReqStep, WriteBackJournalRespStep, WriteBackSuperblockReq-AdvanceLog-Step, WriteBackSuperblockReq-AdvanceLocation-Step, WriteBackSuperblockRespStep, PageInJournalReqStep, PageInJournalRespStep, PageInSuperblockReqStep, PageInSuperblockRespStep, FinishLoadingSuperblockPhaseStep, FinishLoadingOtherPhaseStep, FreezeStep, ReceiveFrozenLocStep, AdvanceStep, ReplayStep, PushSyncReqStep, PopSyncReqStep, NoOpStep}
 use Rattle.source.specs.Laws.Awaited.{unless-some}
+use Rattle.source.specs.Laws.Departs.{source-next}
 use Rattle.source.specs.Laws.PreservedReady.{by-next, inv-rest, inv-freeze, inv-receive, inv-write, inv-write-resp, inv-commit-log, inv-commit-location, inv-commit-resp}
 
 module _ (g : Geometry) where
