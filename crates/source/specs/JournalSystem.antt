@@ -2,11 +2,11 @@
 -- `2` are one predicate over the slot. A function with `requires` takes its proof; a predicate that a function decides by is beside its test.
 use Prim.Native.Nat.{ℕ, _-_}
 use mathlib.Core.Bool.{Bool, true, false, cond, not}
-use mathlib.Core.Path.{_≡_}
+use mathlib.Core.Path.{_≡_, sym, subst}
 use mathlib.Core.List.{List, [], _++_}
 use mathlib.Core.Option.{Option, none, some}
 use lib.Dec.{eqb}
-use Rattle.laws.specs.Choice.{also}
+use Rattle.laws.specs.Choice.{also, split-eq}
 use Rattle.layout.specs.declared.geometry.Geometry.{Geometry}
 use Rattle.layout.specs.declared.location.Location.{Location}
 use Rattle.layout.specs.Location.{sameLocation}
@@ -15,8 +15,8 @@ use Rattle.interval.specs.declared.interval.JournalInterval.{JournalInterval}
 use Rattle.interval.specs.Interval.{interval}
 use Rattle.interval.specs.Facts.{ValidJournalInterval}
 use Rattle.superblock.specs.declared.superblock.Superblock.{Superblock}
-use Rattle.superblock.specs.Superblock.{SelectSuperblockIndex, SelectSuperblock}
-use Rattle.superblock.specs.Laws.{WFSuperblock}
+use Rattle.superblock.specs.Superblock.{IncrementSuperblockCounter, SelectSuperblock}
+use Rattle.superblock.specs.Laws.{WFSuperblock, selects-second, selects-first, selected-second, selected-first}
 use Rattle.laws.specs.Sets.{Map, each, at}
 use Rattle.codec.specs.Codec.{JournalEntry, Codec, Disk-HasJournal, Disk-Journal}
 use Rattle.source.specs.JournalDisk as D
@@ -41,13 +41,14 @@ pub record DiskHasSuperblock (g : Geometry) (disk : D.Variables) : Type 0 where
 abbrev pub SuperblockOfDisk : (g : Geometry) (disk : D.Variables) → DiskHasSuperblock g disk → Superblock
 SuperblockOfDisk g disk h = SelectSuperblock (h .first .value) (h .second .value)
 
+pub selected-wf : (g : Geometry) (superblock1 superblock2 : Superblock) → WFSuperblock g superblock1 → WFSuperblock g superblock2 → WFSuperblock g (SelectSuperblock superblock1 superblock2)
+selected-wf g superblock1 superblock2 p q =
+    split-eq (superblock2 .counter) (IncrementSuperblockCounter (superblock1 .counter))
+    (λ e. subst (WFSuperblock g) (sym (selected-second superblock1 superblock2 (selects-second superblock1 superblock2 e))) q)
+    (λ n. subst (WFSuperblock g) (sym (selected-first superblock1 superblock2 (selects-first superblock1 superblock2 n))) p)
+
 pub superblock-of-disk-wf : (g : Geometry) (disk : D.Variables) (h : DiskHasSuperblock g disk) → WFSuperblock g (SuperblockOfDisk g disk h)
-unfolding SelectSuperblock
-superblock-of-disk-wf g disk h = go (eqb (SelectSuperblockIndex (h .first .value) (h .second .value)) 1)
-  where
-    go : (b : Bool) → WFSuperblock g (cond b (h .second .value) (h .first .value))
-    go true = h .second .wf
-    go false = h .first .wf
+superblock-of-disk-wf g disk h = selected-wf g (h .first .value) (h .second .value) (h .first .wf) (h .second .wf)
 
 abbrev pub WFDisk : Geometry → D.Variables → Type 0
 WFDisk g disk = DiskHasSuperblock g disk

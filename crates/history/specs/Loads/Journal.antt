@@ -6,7 +6,6 @@ use mathlib.Core.List.{List, [], _∷_}
 use mathlib.Core.Option.{Option, none, some, Option·some-injective}
 use lib.ListN.{length}
 use Rattle.laws.specs.Choice.{also, also-left, also-right}
-use Rattle.laws.specs.Fold.{every, every-append}
 use Rattle.layout.specs.declared.geometry.Geometry.{Geometry}
 use Rattle.interval.specs.declared.interval.JournalInterval.{JournalInterval}
 use Rattle.interval.specs.Interval.{interval, JournalFrontInterval, JournalBackInterval}
@@ -27,7 +26,7 @@ use Rattle.source.specs.Limits.{Limits}
 use Rattle.source.specs.Meets.{MachineMeets, bindRead, awaitedJournalReads}
 use Rattle.source.specs.Departures.{Source, MachineStep}
 use Rattle.history.specs.Ledger.{readJournal, journalRead}
-use Rattle.codec.specs.Ranges.{whole, full-whole}
+use Rattle.codec.specs.Ranges.{whole, full-append, full-whole}
 use Rattle.history.specs.Journal.Slots.{Slots, slots-wf}
 use Rattle.history.specs.Simulation.Relation.{Pieces}
 use Rattle.history.specs.Simulation.Loading.{pieces-put}
@@ -48,7 +47,6 @@ module _ (g : Geometry) (j : List (Option JournalBlock)) (v : Superblock) (wf : 
   -- and readable where the whole interval is
   pub piece-full : (which : Bool) (u : JournalInterval) → fullRange (CyclicSlice g j (interval (v .journalStart) (v .journalLen))) ≡ true
       → journalIntervalOfSuperblock g which v ≡ some u → fullRange (CyclicSlice g j u) ≡ true
-  unfolding fullRange
   piece-full which u h e = go which e
     where
       front : List (Option JournalBlock)
@@ -57,12 +55,12 @@ module _ (g : Geometry) (j : List (Option JournalBlock)) (v : Superblock) (wf : 
       back : List (Option JournalBlock)
       back = sliceOf g j (JournalBackInterval g (v .journalStart) (v .journalLen))
 
-      all : also (every readable front) (every readable back) ≡ true
-      all = sym (every-append readable front back) ∙ ap (every readable) (sym (front-back-slice g j size (interval (v .journalStart) (v .journalLen)) spanned-valid)) ∙ h
+      all : also (fullRange front) (fullRange back) ≡ true
+      all = sym (full-append front back) ∙ ap fullRange (sym (front-back-slice g j size (interval (v .journalStart) (v .journalLen)) spanned-valid)) ∙ h
 
-      go : (which : Bool) → journalIntervalOfSuperblock g which v ≡ some u → every readable (CyclicSlice g j u) ≡ true
-      go false e = ap (λ (o : Option JournalInterval). every readable (sliceOf g j o)) (sym e) ∙ also-left (every readable front) (every readable back) all
-      go true e = ap (λ (o : Option JournalInterval). every readable (sliceOf g j o)) (sym e) ∙ also-right (every readable front) (every readable back) all
+      go : (which : Bool) → journalIntervalOfSuperblock g which v ≡ some u → fullRange (CyclicSlice g j u) ≡ true
+      go false e = ap (λ (o : Option JournalInterval). fullRange (sliceOf g j o)) (sym e) ∙ also-left (fullRange front) (fullRange back) all
+      go true e = ap (λ (o : Option JournalInterval). fullRange (sliceOf g j o)) (sym e) ∙ also-right (fullRange front) (fullRange back) all
 
 abbrev pub otherAt : Superblock → Bool → Two (Option ReqId) → Two (Option JournalRange) → M.Variables
 otherAt v w reads pieces = M.Variables.LoadingOther (record { superblock = v; whichSuperblock = w; journalReads = reads; journalPieces = pieces; syncReqs = no-keys })
