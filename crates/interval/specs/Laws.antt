@@ -11,8 +11,7 @@ use native.Mathlib.Omega.{arith}
 use lib.Dec.{ltb}
 use borrow.Author.Tests.{lt-ltb, le-ltb, le-leb, lt-leb, eq-eqb, ne-eqb, leb-true}
 use lib.ListN.{length, take, drop, getD}
-use Rattle.laws.specs.Choice.{also, also-false, false-also, true-also, by-leb, by-ltb, split-le, also-left, also-right, either-cases}
-use Rattle.laws.specs.Fold.{every-append}
+use Rattle.laws.specs.Choice.{also-false, false-also, true-also, by-leb, by-ltb, split-le, also-left, also-right, either-cases}
 use Rattle.laws.specs.Ring.{wrap, off, by-off, wrap-below, wrap-past, wrap-in, wrap-add}
 use Rattle.laws.specs.Around.{around, length-around, getD-around, around-straight, around-past, around-append, around-drop, around-none}
 use Rattle.layout.specs.declared.geometry.Geometry.{Geometry}
@@ -22,7 +21,7 @@ use Rattle.layout.specs.Laws.{ValidJournalLocation, pos-add-wrap}
 use Rattle.interval.specs.declared.interval.JournalInterval.{JournalInterval}
 use Rattle.interval.specs.Interval.{interval, JournalFrontInterval, JournalBackInterval, NextStartPoint, concatIntervals, JournalIntervalOfLocation, subinterval}
 use Rattle.interval.specs.Facts.{ValidJournalInterval, ContiguousJournalInterval, InCyclicRange}
-use Rattle.interval.specs.Journal.{JournalBlock, CyclicSpliceValue, CyclicSlice, readable, fullRange}
+use Rattle.interval.specs.Journal.{JournalBlock, CyclicSpliceValue, CyclicSlice}
 
 -- the point after an interval is the ring's
 pub next-start-wrap : (g : Geometry) (v : JournalInterval) → NextStartPoint g v ≡ wrap (g .blocks) (v .start + v .len)
@@ -242,11 +241,6 @@ module _ {ℓ} {A : Type ℓ} (g : Geometry) (s : List A) (hs : length s ≡ g .
           (record { start-in = f .start-in; len-in = omega arith })
           (next-start-wrap g (interval (v .start) (g .blocks - v .start)) ∙ ap (wrap (g .blocks)) z ∙ wrap-past (g .blocks) (g .blocks) (omega arith) ∙ n)
           (omega arith)
-
--- two ranges in a row are full exactly where both are
-pub full-append : (a b : List (Option JournalBlock)) → fullRange (a ++ b) ≡ also (fullRange a) (fullRange b)
-unfolding fullRange
-full-append a b = every-append readable a b
 
 -- the interval of a journal location is contiguous, and gives the location back
 module _ (g : Geometry) (loc : Location) (f : ValidJournalLocation g loc) where

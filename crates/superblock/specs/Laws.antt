@@ -65,7 +65,7 @@ pub not-two-on : increments1 7 9 ≡ false
 unfolding increments1 IncrementSuperblockCounter
 not-two-on = refl
 
--- the second slot is selected exactly where its counter follows the first's, and is then what is selected
+-- the second slot is selected exactly where its counter follows the first's
 module _ (a b : Superblock) where
   pub selects-second : b .counter ≡ IncrementSuperblockCounter (a .counter) → SelectSuperblockIndex a b ≡ 1
   unfolding SelectSuperblockIndex increments1
@@ -75,6 +75,10 @@ module _ (a b : Superblock) where
   unfolding SelectSuperblockIndex increments1
   selects-first h = simp (ne-eqb (b .counter) (IncrementSuperblockCounter (a .counter)) h)
 
-  pub select-is : SelectSuperblock a b ≡ cond (eqb (SelectSuperblockIndex a b) 1) b a
+  pub selected-second : SelectSuperblockIndex a b ≡ 1 → SelectSuperblock a b ≡ b
   unfolding SelectSuperblock
-  select-is = refl
+  selected-second e = simp (eq-eqb (SelectSuperblockIndex a b) 1 e)
+
+  pub selected-first : SelectSuperblockIndex a b ≡ 0 → SelectSuperblock a b ≡ a
+  unfolding SelectSuperblock
+  selected-first e = let h : SelectSuperblockIndex a b ≡ 1 → ⊥ = λ k. omega arith in simp (ne-eqb (SelectSuperblockIndex a b) 1 h)

@@ -6,11 +6,11 @@ use mathlib.Core.Path.{_≡_, refl, sym, _∙_, ap, subst}
 use mathlib.Core.Option.{Option, some, Option·some-injective}
 use native.Mathlib.Omega.{arith}
 use lib.Dec.{eqb}
-use Rattle.laws.specs.Choice.{by-eqb, true-false, false-true}
+use Rattle.laws.specs.Choice.{split-eq, by-eqb, true-false, false-true}
 use Rattle.layout.specs.declared.geometry.Geometry.{Geometry}
 use Rattle.superblock.specs.declared.superblock.Superblock.{Superblock}
 use Rattle.superblock.specs.Superblock.{IncrementSuperblockCounter, SelectSuperblock}
-use Rattle.superblock.specs.Laws.{WFSuperblock, increment-parity, increment-twice, selects-second, selects-first, select-is}
+use Rattle.superblock.specs.Laws.{WFSuperblock, increment-parity, increment-twice, selects-second, selects-first, selected-second, selected-first}
 use Rattle.laws.specs.Sets.{Two, at, put, at-put}
 use Rattle.source.specs.JournalCache.{selectedSecond}
 
@@ -37,11 +37,10 @@ abbrev pub picked : Two Superblock → Bool
 picked t = selectedSecond (t .first) (t .second)
 
 pub picked-is : (t : Two Superblock) → SelectSuperblock (t .first) (t .second) ≡ at t (picked t)
-picked-is t = select-is (t .first) (t .second) ∙ go (picked t)
-  where
-    go : (b : Bool) → cond b (t .second) (t .first) ≡ at t b
-    go true = refl
-    go false = refl
+picked-is t =
+    split-eq (t .second .counter) (IncrementSuperblockCounter (t .first .counter))
+    (λ e. let s = selects-second (t .first) (t .second) e in selected-second (t .first) (t .second) s ∙ sym (ap (λ (n : ℕ). at t (eqb n 1)) s))
+    (λ f. let s = selects-first (t .first) (t .second) f in selected-first (t .first) (t .second) s ∙ sym (ap (λ (n : ℕ). at t (eqb n 1)) s))
 
 pub picks-newer : (t : Two Superblock) (w : Bool) (v : Superblock) → picked t ≡ w → v .counter ≡ IncrementSuperblockCounter (at t w .counter)
     → picked (put t (not w) v) ≡ not w

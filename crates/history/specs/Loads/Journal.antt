@@ -11,7 +11,7 @@ use Rattle.interval.specs.declared.interval.JournalInterval.{JournalInterval}
 use Rattle.interval.specs.Interval.{interval, JournalFrontInterval, JournalBackInterval}
 use Rattle.interval.specs.Facts.{ValidJournalInterval, ContiguousJournalInterval}
 use Rattle.interval.specs.Journal.{JournalBlock, CyclicSlice, fullRange, readable}
-use Rattle.interval.specs.Laws.{Contiguous?, parts-fit, sliceOf, front-back-slice, full-append}
+use Rattle.interval.specs.Laws.{Contiguous?, parts-fit, sliceOf, front-back-slice}
 use Rattle.superblock.specs.declared.superblock.Superblock.{Superblock}
 use Rattle.superblock.specs.Laws.{WFSuperblock}
 use Rattle.laws.specs.Sets.{no-ids, no-keys, bind, AtMost, none-few, Two, both, at, put, none-some, same-value, at-both, at-put, bind-here}
@@ -26,7 +26,7 @@ use Rattle.source.specs.Limits.{Limits}
 use Rattle.source.specs.Meets.{MachineMeets, bindRead, awaitedJournalReads}
 use Rattle.source.specs.Departures.{Source, MachineStep}
 use Rattle.history.specs.Ledger.{readJournal, journalRead}
-use Rattle.codec.specs.Ranges.{whole, full-whole}
+use Rattle.codec.specs.Ranges.{whole, full-append, full-whole}
 use Rattle.history.specs.Journal.Slots.{Slots, slots-wf}
 use Rattle.history.specs.Simulation.Relation.{Pieces}
 use Rattle.history.specs.Simulation.Loading.{pieces-put}
