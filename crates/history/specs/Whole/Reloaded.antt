@@ -4,7 +4,7 @@ use Prim.Native.Nat.{ℕ, _-_, _≤_, _<_}
 use mathlib.Core.Bool.{Bool, true, false}
 use mathlib.Core.Path.{_≡_, refl, sym, _∙_, ap, subst}
 use mathlib.Core.List.{List, [], _++_, append-nil, map-append}
-use mathlib.Core.Option.{Option, none, some, Option·getD}
+use mathlib.Core.Option.{Option, some, Option·getD}
 use lib.ListN.{length}
 use Rattle.laws.specs.Choice.{false-true}
 use Rattle.laws.specs.Cut.{flat}
@@ -14,75 +14,20 @@ use Rattle.interval.specs.Interval.{interval, JournalFrontInterval, JournalBack
 use Rattle.interval.specs.Journal.{JournalBlock, CyclicSlice}
 use Rattle.interval.specs.Laws.{FrontBack, parts-none, parts-straight, parts-wrapped, parts-cases, sliceOf, front-back-slice}
 use Rattle.superblock.specs.declared.superblock.Superblock.{Superblock}
-use Rattle.laws.specs.Sets.{no-ids, no-keys, at, same-value}
+use Rattle.laws.specs.Sets.{no-keys, at, same-value}
 use Rattle.codec.specs.Codec.{JournalRange, Codec}
 use Rattle.source.specs.JournalDisk as D
 use Rattle.source.specs.JournalDisk.{DiskOp}
 use Rattle.source.specs.JournalCache as M
-use Rattle.source.specs.JournalCache.{CommitNone, loadedRange, loaded}
+use Rattle.source.specs.JournalCache.{loadedRange, loaded}
 use Rattle.source.specs.JournalSystem as Y
 use Rattle.source.specs.Limits.{Limits}
 use Rattle.source.specs.Departures.{FinishLoadingOtherPhase⁺, Event, Allowed}
-use Rattle.history.specs.Ledger.{Call, writeJournal, journalWritten, commitLog, commitLocation, superblockWritten, readJournal, journalRead, readSuperblock, superblockRead, finishSuperblocks, finishOther, freeze, receive, add, replay, pushSync, popSync, noOp, askAgain, land, crash, blocks, Ledger, tell, Shown, shown}
+use Rattle.history.specs.Ledger.{Call, writeJournal, journalWritten, commitLog, commitLocation, superblockWritten, readJournal, journalRead, readSuperblock, superblockRead, finishSuperblocks, finishOther, freeze, receive, add, replay, pushSync, popSync, noOp, askAgain, land, crash, nonsense, blocks, Ledger, tell, Shown, shown}
 use Rattle.codec.specs.Ranges.{codes, whole, whole-same, length-codes, parse-codes}
 use Rattle.history.specs.Journal.Slots.{parity}
 use Rattle.history.specs.Simulation.Relation.{superOf, Pieces, Sim}
-use Rattle.history.specs.Calls.{Tied, tied-write, tied-written, unawaited-written, tied-log, tied-location, tied-committed, unawaited-committed, tied-page, tied-paged, tied-damaged, unawaited-paged, unawaited-damaged, tied-read, tied-superblock, tied-corrupt, unawaited-superblock, unawaited-corrupt, tied-finish-superblocks, tied-finish-other, tied-freeze, tied-receive, tied-add, tied-replay, tied-push, tied-pop, tied-no-op, tied-again, tied-land, tied-crash, Takes}
-
--- reads and their whole answers, and the two finishing steps
-unfoldable pub loads : Call → Bool
-loads (writeJournal id1 id2) = false
-loads (journalWritten id) = false
-loads (commitLog id) = false
-loads (commitLocation id) = false
-loads (superblockWritten id) = false
-loads (readJournal which id) = true
-loads (journalRead id whole) = whole
-loads (readSuperblock which id) = true
-loads (superblockRead which id whole) = whole
-loads finishSuperblocks = true
-loads finishOther = true
-loads freeze = false
-loads (receive loc) = false
-loads (add es) = false
-loads (replay es) = false
-loads (pushSync id) = false
-loads (popSync id) = false
-loads noOp = false
-loads (askAgain which) = false
-loads (land which) = false
-loads crash = false
-
--- the machine at Ready that shows so much, in slot w
-abbrev pub readyBy : Shown → Bool → M.ReadyVariables
-readyBy v w =
-    record {
-      frozenLoc = none;
-      isFrozen = false;
-      frozenJournalPosition = 0;
-      superblockWrite = none;
-      inMemoryJournalFrozen = [];
-      inMemoryJournal = [];
-      outstandingJournalWrites = no-ids;
-      writtenJournalLen = v .blocks;
-      replayJournal = v .entries;
-      superblock = record { counter = v .counter; journalStart = v .start; journalLen = v .blocks; indirectionTableLoc = v .loc };
-      whichSuperblock = w;
-      commitStatus = CommitNone;
-      newSuperblock = none;
-      syncReqs = no-keys;
-    }
-
--- what a machine at Ready shows of a ledger: the replay entries are the ledger's
-abbrev pub shows : M.ReadyVariables → Shown
-shows r =
-    record {
-      counter = r .superblock .counter;
-      start = r .superblock .journalStart;
-      loc = r .superblock .indirectionTableLoc;
-      blocks = r .superblock .journalLen;
-      entries = r .replayJournal;
-    }
+use Rattle.history.specs.Statement.{Tied, tied-write, tied-written, unawaited-written, tied-log, tied-location, tied-committed, unawaited-committed, tied-page, tied-paged, tied-damaged, unawaited-paged, unawaited-damaged, tied-read, tied-superblock, tied-corrupt, unawaited-superblock, unawaited-corrupt, tied-finish-superblocks, tied-finish-other, tied-freeze, tied-receive, tied-add, tied-replay, tied-push, tied-pop, tied-no-op, tied-again, tied-land, tied-crash, Takes, loads, readyBy}
 
 -- a machine on its way from a crash to Ready, with no other step
 abbrev pub Clean : ℕ → M.Variables → Shown → Type 0
@@ -267,3 +212,4 @@ loads-tell g C noOp l h = refl
 loads-tell g C (askAgain which) l h = refl
 loads-tell g C (land which) l h = false-true h
 loads-tell g C crash l h = false-true h
+loads-tell g C nonsense l h = refl
