@@ -5,6 +5,7 @@ pub mod Departs
 pub mod Initial
 pub mod Unique
 pub mod Answers
+pub mod Pieces
 pub mod Open
 pub mod Awaited
 pub mod PreservedReady

@@ -9,9 +9,9 @@ use Rattle.laws.specs.Choice.{also, also-left, also-right}
 use Rattle.layout.specs.declared.geometry.Geometry.{Geometry}
 use Rattle.interval.specs.declared.interval.JournalInterval.{JournalInterval}
 use Rattle.interval.specs.Interval.{interval, JournalFrontInterval, JournalBackInterval}
-use Rattle.interval.specs.Facts.{ValidJournalInterval, ContiguousJournalInterval}
+use Rattle.interval.specs.Facts.{ContiguousJournalInterval}
 use Rattle.interval.specs.Journal.{JournalBlock, CyclicSlice, fullRange, readable}
-use Rattle.interval.specs.Laws.{Contiguous?, parts-fit, sliceOf, front-back-slice}
+use Rattle.interval.specs.Laws.{sliceOf, front-back-slice}
 use Rattle.superblock.specs.declared.superblock.Superblock.{Superblock}
 use Rattle.superblock.specs.Laws.{WFSuperblock}
 use Rattle.laws.specs.Sets.{no-ids, no-keys, bind, AtMost, none-few, Two, both, at, put, none-some, same-value, at-both, at-put, bind-here}
@@ -25,6 +25,7 @@ use Rattle.source.specs.JournalSystem as Y
 use Rattle.source.specs.Limits.{Limits}
 use Rattle.source.specs.Meets.{MachineMeets, bindRead, awaitedJournalReads}
 use Rattle.source.specs.Departures.{Source, MachineStep}
+use Rattle.source.specs.Laws.Pieces.{spanned-valid, piece-contiguous}
 use Rattle.history.specs.Ledger.{readJournal, journalRead}
 use Rattle.codec.specs.Ranges.{whole, full-append, full-whole}
 use Rattle.history.specs.Journal.Slots.{Slots, slots-wf}
@@ -36,15 +37,7 @@ use Rattle.history.specs.Loads.Superblocks.{reading, resting, Room, disk
 
 -- the pieces of a superblock's interval
 module _ (g : Geometry) (j : List (Option JournalBlock)) (v : Superblock) (wf : WFSuperblock g v) (size : length j ≡ g .blocks) where
-  spanned-valid : ValidJournalInterval g (interval (v .journalStart) (v .journalLen))
-  spanned-valid = record { start-in = wf .start-in; len-in = wf .len-in }
-
-  -- each is contiguous
-  pub piece-contiguous : (which : Bool) (u : JournalInterval) → journalIntervalOfSuperblock g which v ≡ some u → ContiguousJournalInterval g u
-  piece-contiguous false u e = subst (Contiguous? g) e (parts-fit g (interval (v .journalStart) (v .journalLen)) spanned-valid .front-contiguous)
-  piece-contiguous true u e = subst (Contiguous? g) e (parts-fit g (interval (v .journalStart) (v .journalLen)) spanned-valid .back-contiguous)
-
-  -- and readable where the whole interval is
+  -- each is readable where the whole interval is
   pub piece-full : (which : Bool) (u : JournalInterval) → fullRange (CyclicSlice g j (interval (v .journalStart) (v .journalLen))) ≡ true
       → journalIntervalOfSuperblock g which v ≡ some u → fullRange (CyclicSlice g j u) ≡ true
   piece-full which u h e = go which e
@@ -56,7 +49,7 @@ module _ (g : Geometry) (j : List (Option JournalBlock)) (v : Superblock) (wf : 
       back = sliceOf g j (JournalBackInterval g (v .journalStart) (v .journalLen))
 
       all : also (fullRange front) (fullRange back) ≡ true
-      all = sym (full-append front back) ∙ ap fullRange (sym (front-back-slice g j size (interval (v .journalStart) (v .journalLen)) spanned-valid)) ∙ h
+      all = sym (full-append front back) ∙ ap fullRange (sym (front-back-slice g j size (interval (v .journalStart) (v .journalLen)) (spanned-valid g v wf))) ∙ h
 
       go : (which : Bool) → journalIntervalOfSuperblock g which v ≡ some u → fullRange (CyclicSlice g j u) ≡ true
       go false e = ap (λ (o : Option JournalInterval). fullRange (sliceOf g j o)) (sym e) ∙ also-left (fullRange front) (fullRange back) all
@@ -98,7 +91,7 @@ module _ (g : Geometry) (C : Codec) (L : Limits) (room : Room L) (slots : Two (O
             record {
               reads-differ = differ;
               read-or-in = λ b id jr p q. none-some (asked b id p .0) q;
-              piece-size = λ b jr u p q. sized-held g j size sized u (piece-contiguous g j v wf size b u q .valid) jr (held b jr u p q);
+              piece-size = λ b jr u p q. sized-held g j size sized u (piece-contiguous g v wf b u q .valid) jr (held b jr u p q);
             };
       }
 
@@ -116,7 +109,7 @@ module _ (g : Geometry) (C : Codec) (L : Limits) (room : Room L) (slots : Two (O
   page-read which u pieces e unread owned held = by ask refl (by answer refl here)
     where
       in-place : ContiguousJournalInterval g u
-      in-place = piece-contiguous g j v wf size which u e
+      in-place = piece-contiguous g v wf which u e
 
       asked : Y.Variables
       asked = record { machine = otherAt v w (one which) pieces; disk = reading (both no-ids) (bind no-keys 1 u) slots j }

@@ -24,6 +24,7 @@ use Rattle.source.specs.Meets.{LoadingOtherShape, LoadingSuperblockShape
 use Rattle.source.specs.Departures.{DamagedJournalClauses, Step⁺, Source, DamagedJournalStep, AskAgainStep, NextStep⁺}
 use Rattle.source.specs.Within.{StepArguments, AwaitedPiece}
 use Rattle.source.specs.Laws.Awaited.{unless-not, unless-some, awaited-read}
+use Rattle.source.specs.Laws.Pieces.{spanned-valid}
 use Rattle.source.specs.Laws.ShapeReady.{by-shape, ready-shape}
 
 -- A pair of reads that differ
@@ -158,9 +159,7 @@ module _ (g : Geometry) (L : Limits) where
           let all =
           joined-bytes (journalIntervalOfSuperblock g true (s .superblock)) (journalIntervalOfSuperblock g false (s .superblock))
           (Option·getD (at (s .journalPieces) false) []) (Option·getD (at (s .journalPieces) true) []) in
-          let parts =
-          parts-fit g (interval (s .superblock .journalStart) (s .superblock .journalLen))
-          (record { start-in = inv .superblock-wf .start-in; len-in = inv .superblock-wf .len-in }) .lens-add in
+          let parts = parts-fit g (interval (s .superblock .journalStart) (s .superblock .journalLen)) (spanned-valid g (s .superblock) (inv .superblock-wf)) .lens-add in
           omega (arith, all, piece-bytes false, piece-bytes true, parts, inv .superblock-wf .len-in)
 
       finished-shape : (C : Codec) → Fitting C L → (s′ : Variables) (dop : DiskOp) → isReady s′ (λ t. JournalCache.FinishLoadingOtherPhaseClauses g C s t dop) → MachineShape g L s′
