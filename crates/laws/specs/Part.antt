@@ -51,6 +51,20 @@ module _ {ℓ} {A : Type ℓ} where
       (λ h. rw (min-eq-left h))
       (λ h. rw (min-eq-right (le-of-lt h)) (take-all r xs (omega arith) ∙ sym (take-all n xs (omega arith))))
 
+  -- a part whose start and end are cut at the list's
+  pub part-cut : (xs : List A) (at n start end : ℕ) → start ≡ min at (length xs) → end ≡ start + min n (length xs - at)
+      → take (end - start) (drop start xs) ≡ take n (drop at xs)
+  part-cut xs at n start end hs he =
+      split-le at (length xs)
+      (λ h.
+      let s : start ≡ at = omega arith in
+      let k : end - start ≡ min n (length xs - at) = omega arith in
+      (λ i. take (k i) (drop (s i) xs)) ∙ take-min (drop at xs) n (length xs - at) (length-drop at xs))
+      (λ h.
+      let none : drop start xs ≡ [] = drop-of-length-le xs {i = start} (omega arith) in
+      let past : drop at xs ≡ [] = drop-of-length-le xs {i = at} (omega arith) in
+      rw (none, past) (take-nil {A = A} (end - start) ∙ sym (take-nil {A = A} n)))
+
   -- dropping from what was taken is taking from what was dropped
   pub drop-take : (a k : ℕ) (xs : List A) → drop a (take (a + k) xs) ≡ take k (drop a xs)
   drop-take a k xs =
