@@ -9,11 +9,11 @@ use native.Mathlib.Omega.{arith}
 use lib.ListN.{length, take, drop, getD, length-append, length-drop}
 use lib.Dec.{leb, ltb}
 use lib.Seq.{take-at, drop-at, take-add, drop-drop, length-take-le, getD-drop}
-use borrow.Author.Tests.{lt-ltb, le-leb, lt-leb, ltb-true, leb-true}
-use Rattle.laws.specs.Choice.{also, also-left, also-right, also-both, not-so}
+use borrow.Author.Tests.{lt-ltb, le-leb, ltb-true, leb-true}
+use Rattle.laws.specs.Choice.{also, also-left, also-right, also-both, also-true}
 use Rattle.laws.specs.Fold.{every, every-append, every-take, every-drop, every-all, every-at}
 use Rattle.laws.specs.Digits.{fromDigits, isDigit, length-digits, digits-one, digits-two, fromDigits-one, fromDigits-two, fromDigits-digits, digits-fromDigits, digits-each}
-use Rattle.range.specs.Form.{lowFirst, fromLow, lengthBytes, lengthsFrom, okLength, blockCount, entryCount}
+use Rattle.range.specs.Form.{MostEntryLength, lowFirst, fromLow, lengthBytes, lengthsFrom, okLength, blockCount, entryCount}
 
 -- a number that a byte holds, and a list of such
 abbrev pub isByte : ℕ → Bool
@@ -44,14 +44,10 @@ pub ok-yes : (most n : ℕ) → 1 ≤ n → n ≤ most → okLength most n ≡ t
 unfolding okLength
 ok-yes most n h k = also-both (leb 1 n) (leb n most) (le-leb 1 n h) (le-leb n most k)
 
--- one that is too short, and one that is too long
-pub ok-short : (most n : ℕ) → n < 1 → okLength most n ≡ false
-unfolding okLength also
-ok-short most n h = simp (lt-leb 1 n h)
-
-pub ok-long : (most n : ℕ) → most < n → okLength most n ≡ false
+-- a byte can't be above the greatest length of one byte
+pub ok-byte : (n : ℕ) → n < 256 → okLength MostEntryLength n ≡ leb 1 n
 unfolding okLength
-ok-long most n h = not-so (okLength most n) (λ e. let k = ok-high most n e in omega arith)
+ok-byte n h = ap (also (leb 1 n)) (le-leb n MostEntryLength (omega arith)) ∙ also-true (leb 1 n)
 
 -- a number in w bytes
 pub length-lowFirst : (w n : ℕ) → length (lowFirst w n) ≡ w
