@@ -26,7 +26,7 @@ mul-size : tie.Need-mul-size
 mul-size c = let s = small (c .before) in omega arith
 
 returns : tie.Need-returns
-returns c = front-past _ _ (c .before .before .contents .ensures) (c .if1 .taken)
+returns c = front-past _ _ (c .before .before .contents .ensures) (omega arith)
 
 counts-ok-requires : tie.Need-counts-ok-requires
 counts-ok-requires c κs = search needs
