@@ -2,7 +2,7 @@
 -- tests and the first no among questions, with the laws that take them apart and put them together, and the case of each test on
 -- numbers. Assumes nothing.
 use Prim.Native.Nat.{ℕ, suc, _+_, _-_, _≤_, _<_}
-use mathlib.Core.Bool.{Bool, true, false, cond}
+use mathlib.Core.Bool.{Bool, true, false, cond, _&&_}
 use mathlib.Core.Path.{_≡_, refl, sym, _∙_, ap}
 use mathlib.Core.Logic.{_⊎_, inl, inr}
 use mathlib.Core.Option.{none, some}
@@ -44,6 +44,12 @@ false-true e = ruin (ap (λ (b : Bool). cond b 1 0) e)
 
 pub true-false {ℓ} : {G : Type ℓ} → true ≡ false → G
 true-false e = false-true (sym e)
+
+-- the code's `&` of two tests
+pub and-also : (a b : Bool) → a && b ≡ also a b
+unfolding also
+and-also true b = refl
+and-also false b = refl
 
 -- a conjunction, taken apart and put together
 pub also-left : (a b : Bool) → also a b ≡ true → a ≡ true

@@ -73,6 +73,11 @@ module _ {ℓ} {A : Type ℓ} where
       ∙ ap (take (min count (length xs - start))) (ap (λ (n : ℕ). drop n xs) es ∙ drop-min xs from (length xs) refl)
       ∙ take-min (drop from xs) count (length xs - start) (simp length-drop (omega arith))
 
+  -- the same by its end
+  pub part-ends : (xs : List A) (at n start end : ℕ) → start ≡ min at (length xs) → end ≡ start + min n (length xs - at)
+      → take (end - start) (drop start xs) ≡ take n (drop at xs)
+  part-ends xs at n start end hs he = part-cut xs at n start (end - start) (end - start) hs (omega arith) refl
+
   -- dropping from what was taken is taking from what was dropped
   pub drop-take : (a k : ℕ) (xs : List A) → drop a (take (a + k) xs) ≡ take k (drop a xs)
   drop-take a k xs =

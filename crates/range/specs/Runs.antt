@@ -21,8 +21,8 @@ pub length-head : (b e : ℕ) → length (head b e) ≡ HeadSize
 length-head b e = simp (length-append, length-lowFirst)
 
 -- as four single bytes
-pub head-is : (b e : ℕ) → b < 65536 → e < 65536 → head b e ≡ b % 256 ∷ b / 256 ∷ e % 256 ∷ e / 256 ∷ []
-head-is b e h k = λ i. low-two b h i ++ low-two e k i
+pub head-is : (b e : ℕ) → head b e ≡ b % 256 ∷ b / 256 % 256 ∷ e % 256 ∷ e / 256 % 256 ∷ []
+head-is b e = λ i. low-two b i ++ low-two e i
 
 module _ (w : ℕ) (es : List Entry) where
   pub encode-is : encodeAt w es ≡ head (blocksAt w es) (length es) ++ lengthBytes w (lengths es) ++ flat es ++ padding w es

@@ -7,19 +7,31 @@ use mathlib.Core.Path.{_≡_, sym, _∙_, ap}
 use mathlib.Core.List.{List, [], _++_, map}
 use native.Mathlib.Omega.{arith}
 use lib.ListN.{length, take, drop, length-take, length-drop}
-use lib.Seq.{take-all, take-take, drop-drop}
+use lib.Seq.{take-all, take-take, drop-drop, length-take-le}
 use Rattle.laws.specs.Choice.{also}
-use Rattle.laws.specs.Part.{drop-end}
+use Rattle.laws.specs.Part.{drop-end, part-of-front}
 use Rattle.laws.specs.Fold.{every}
 use Rattle.laws.specs.Cut.{flat}
-use Rattle.range.specs.Form.{BlockSize, fromLow, blockCount, entriesAt, parsesAt, rangeSize, rangesWithin, ranges, allParseAt, allEntriesAt}
-use Rattle.range.specs.Shape.{parses-part}
+use Rattle.range.specs.Form.{BlockSize, LengthWidth, HeadSize, fromLow, blockCount, entryCount, lengthsAt, entriesAt, parsesAt, rangeSize, rangesWithin, ranges, allParseAt, allEntriesAt}
+use Rattle.range.specs.Shape.{parses-part, lengthsAt-one}
 use Rattle.range.specs.Ranges.{ranges-step}
 
--- the block count stands in the first two bytes
+-- the counts and the lengths stand in the first bytes
 pub blockCount-take : (n : ℕ) (xs : List ℕ) → 2 ≤ n → blockCount (take n xs) ≡ blockCount xs
 unfolding blockCount
 blockCount-take n xs h = ap fromLow (take-take 2 n xs h)
+
+pub entryCount-take : (n : ℕ) (xs : List ℕ) → HeadSize ≤ n → entryCount (take n xs) ≡ entryCount xs
+unfolding entryCount
+entryCount-take n xs h = ap fromLow (part-of-front xs n 2 2 h)
+
+pub lengthsAt-take : (n : ℕ) (xs : List ℕ) → HeadSize + entryCount xs ≤ n → n ≤ length xs → lengthsAt LengthWidth (take n xs) ≡ lengthsAt LengthWidth xs
+lengthsAt-take n xs h k =
+    let e : entryCount (take n xs) ≡ entryCount xs = entryCount-take n xs (omega arith) in
+    lengthsAt-one (take n xs) (omega (arith, e, length-take-le n xs k))
+    ∙ ap (λ (m : ℕ). take m (drop HeadSize (take n xs))) e
+    ∙ part-of-front xs n HeadSize (entryCount xs) h
+    ∙ sym (lengthsAt-one xs (omega arith))
 
 module _ (w most : ℕ) (xs : List ℕ) (at : ℕ) where
   here : at < length xs → 0 < length (drop at xs)
