@@ -62,7 +62,7 @@ impl JournalInterval {
     }
 
     // The sum is of a valid interval's parts where it counts, and cannot wrap there.
-    pub(crate) fn contiguous(self, g: Geometry) -> bool
+    pub fn contiguous(self, g: Geometry) -> bool
         ensures { λ r. ⌜ r ≡ contiguousJournalInterval g self ⌝ }
     {
         let b = self.valid(g);
