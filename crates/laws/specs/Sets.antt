@@ -1,15 +1,15 @@
 -- Dafny's sets and maps as functions of the key, so that `==` is a path, and by content; and its pairs `x1`, `x2` as one record that a
 -- Bool reads and writes: false is the first (`which` 0), true the second (`which` 1), and "0 or 1" is met by the type. Assumes nothing.
-use Prim.Native.Nat.{ℕ, suc, _≤_}
+use Prim.Native.Nat.{ℕ, suc, _≤_, _<_}
 use mathlib.Core.Bool.{Bool, true, false, cond, not}
 use mathlib.Core.Path.{_≡_, refl, sym, _∙_, ap, subst}
-use mathlib.Core.List.{List, [], _∷_}
+use mathlib.Core.List.{List, [], _∷_, _++_}
 use mathlib.Core.Option.{Option, none, some, Option·map, Option·some-injective, Option·none-ne-some}
 use native.Mathlib.Omega.{arith}
 use lib.Dec.{eqb}
 use lib.ListN.{length}
 use borrow.Author.Tests.{eq-eqb, ne-eqb}
-use Rattle.laws.specs.Choice.{split-eq, true-false, false-true}
+use Rattle.laws.specs.Choice.{split-eq, true-false, false-true, same-test}
 
 -- set<uint64>
 abbrev pub Ids : Type 0
@@ -51,11 +51,18 @@ isKey (some a) = true
 abbrev pub keys : {A : Type 0} → Map A → Ids
 keys m i = isKey (m i)
 
--- the set of a list's numbers, and a list without repeats
+-- the set of a list's numbers
 unfoldable pub idsOf : List ℕ → Ids
 idsOf [] i = false
 idsOf (k ∷ ks) i = cond (eqb k i) true (idsOf ks i)
 
+-- the map of two lists side by side, keys and values: the first of equal keys counts
+unfoldable pub mapOf : {A : Type 0} → List ℕ → List A → Map A
+mapOf [] vs i = none
+mapOf (k ∷ ks) [] i = none
+mapOf (k ∷ ks) (v ∷ vs) i = cond (eqb k i) (some v) (mapOf ks vs i)
+
+-- a list without repeats
 unfoldable pub Distinct : List ℕ → Type 0
 Distinct [] = Unit {0}
 Distinct (k ∷ ks) = (idsOf ks k ≡ false) × Distinct ks
@@ -211,3 +218,118 @@ few-listed n s ids l m = distinct-few n ids (l .distinct) (subst (AtMost n) (l .
 
 pub listed-at-most : (n : ℕ) (s : Ids) (ids : List ℕ) → Listed s ids → length ids ≤ n → AtMost n s
 listed-at-most n s ids l h = subst (AtMost n) (sym (l .are)) (listed-few n ids h)
+
+-- neither of two tests holds
+neither : (a b : Bool) → a ≡ false → b ≡ false → cond a true b ≡ false
+neither true b p q = p
+neither false b p q = q
+
+not-first : (a b : Bool) → cond a true b ≡ false → a ≡ false
+not-first true b e = e
+not-first false b e = refl
+
+not-second : (a b : Bool) → cond a true b ≡ false → b ≡ false
+not-second true b e = true-false e
+not-second false b e = e
+
+-- the set of two lists, and of a list with one number more at its end
+pub idsOf-append : (xs ys : List ℕ) (i : ℕ) → idsOf (xs ++ ys) i ≡ cond (idsOf xs i) true (idsOf ys i)
+unfolding idsOf
+idsOf-append [] ys i = refl
+idsOf-append (x ∷ xs) ys i = go (eqb x i) (idsOf-append xs ys i)
+  where
+    go : (b : Bool) → idsOf (xs ++ ys) i ≡ cond (idsOf xs i) true (idsOf ys i)
+        → cond b true (idsOf (xs ++ ys) i) ≡ cond (cond b true (idsOf xs i)) true (idsOf ys i)
+    go true e = refl
+    go false e = e
+
+pub idsOf-snoc : (xs : List ℕ) (k : ℕ) → idsOf (xs ++ (k ∷ [])) ≡ join (idsOf xs) k
+unfolding idsOf
+idsOf-snoc xs k = λ j i. (idsOf-append xs (k ∷ []) i ∙ go (idsOf xs i) (eqb k i)) j
+  where
+    go : (a b : Bool) → cond a true (cond b true false) ≡ cond b true a
+    go true true = refl
+    go true false = refl
+    go false true = refl
+    go false false = refl
+
+-- a number that stands in neither part
+pub out-append : (xs ys : List ℕ) (i : ℕ) → idsOf xs i ≡ false → idsOf ys i ≡ false → idsOf (xs ++ ys) i ≡ false
+out-append xs ys i p q = idsOf-append xs ys i ∙ neither (idsOf xs i) (idsOf ys i) p q
+
+pub out-left : (xs ys : List ℕ) (i : ℕ) → idsOf (xs ++ ys) i ≡ false → idsOf xs i ≡ false
+out-left xs ys i e = not-first (idsOf xs i) (idsOf ys i) (sym (idsOf-append xs ys i) ∙ e)
+
+pub out-right : (xs ys : List ℕ) (i : ℕ) → idsOf (xs ++ ys) i ≡ false → idsOf ys i ≡ false
+out-right xs ys i e = not-second (idsOf xs i) (idsOf ys i) (sym (idsOf-append xs ys i) ∙ e)
+
+pub out-head : (k i : ℕ) (ks : List ℕ) → idsOf (k ∷ ks) i ≡ false → k ≡ i → ⊥
+out-head k i ks e q = true-false (sym (idsOf-here k ks) ∙ ap (idsOf (k ∷ ks)) q ∙ e)
+
+pub out-tail : (k i : ℕ) (ks : List ℕ) → idsOf (k ∷ ks) i ≡ false → idsOf ks i ≡ false
+out-tail k i ks e = sym (idsOf-there k i ks (out-head k i ks e)) ∙ e
+
+pub out-cons : (k i : ℕ) (ks : List ℕ) → (k ≡ i → ⊥) → idsOf ks i ≡ false → idsOf (k ∷ ks) i ≡ false
+out-cons k i ks n e = idsOf-there k i ks n ∙ e
+
+-- distinct numbers with a new one at their end, and without the last one
+pub distinct-snoc : (xs : List ℕ) (k : ℕ) → Distinct xs → idsOf xs k ≡ false → Distinct (xs ++ (k ∷ []))
+unfolding Distinct idsOf
+distinct-snoc [] k d e = (refl, tt)
+distinct-snoc (x ∷ xs) k d e =
+    (out-append xs (k ∷ []) x (d .0) (out-cons k x [] (λ q. out-head x k xs e (sym q)) refl), distinct-snoc xs k (d .1) (out-tail x k xs e))
+
+pub distinct-front : (xs : List ℕ) (k : ℕ) → Distinct (xs ++ (k ∷ [])) → Distinct xs
+unfolding Distinct
+distinct-front [] k d = tt
+distinct-front (x ∷ xs) k d = (out-left xs (k ∷ []) x (d .0), distinct-front xs k (d .1))
+
+pub distinct-last : (xs : List ℕ) (k : ℕ) → Distinct (xs ++ (k ∷ [])) → idsOf xs k ≡ false
+unfolding Distinct idsOf
+distinct-last [] k d = refl
+distinct-last (x ∷ xs) k d = out-cons x k xs (λ q. out-head k x [] (out-right xs (k ∷ []) x (d .0)) (sym q)) (distinct-last xs k (d .1))
+
+-- distinct numbers with the last one in the place of another
+pub distinct-swap : (xs ys : List ℕ) (k l : ℕ) → Distinct (xs ++ k ∷ (ys ++ (l ∷ []))) → Distinct (xs ++ l ∷ ys)
+unfolding Distinct
+distinct-swap [] ys k l d = (distinct-last ys l (d .1), distinct-front ys l (d .1))
+distinct-swap (x ∷ xs) ys k l d =
+    let r = out-tail k x (ys ++ (l ∷ [])) (out-right xs (k ∷ (ys ++ (l ∷ []))) x (d .0)) in
+    let n = out-head l x [] (out-right ys (l ∷ []) x r) in
+    (out-append xs (l ∷ ys) x (out-left xs (k ∷ (ys ++ (l ∷ []))) x (d .0)) (out-cons l x ys n (out-left ys (l ∷ []) x r)), distinct-swap xs ys k l (d .1))
+
+-- a bound at its edge: a number new to distinct ones joins them within n exactly where they are fewer than n
+pub joined-few : (n : ℕ) (xs : List ℕ) (k : ℕ) → length xs < n → AtMost n (join (idsOf xs) k)
+unfolding idsOf
+joined-few n xs k h = listed-few n (k ∷ xs) h
+
+pub few-joined : (n : ℕ) (xs : List ℕ) (k : ℕ) → Distinct xs → idsOf xs k ≡ false → AtMost n (join (idsOf xs) k) → length xs < n
+unfolding idsOf Distinct
+few-joined n xs k d e m = distinct-few n (k ∷ xs) (e, d) m
+
+-- a part of few is few
+pub few-within : (n : ℕ) (s t : Ids) → AtMost n t → ((i : ℕ) → s i ≡ true → t i ≡ true) → AtMost n s
+few-within n s t m f = record { listed = m .listed; few = m .few; all = λ i e. m .all i (f i e) }
+
+pub few-before : (n : ℕ) (s : Ids) (k : ℕ) → AtMost n (join s k) → AtMost n s
+few-before n s k m = few-within n s (join s k) m (λ i e. go (eqb k i) (s i) e)
+  where
+    go : (a b : Bool) → b ≡ true → cond a true b ≡ true
+    go true b e = refl
+    go false b e = e
+
+-- a number that is there already joins as it stands, and one that isn't leaves as it stands
+pub join-same : (s : Ids) (k : ℕ) → s k ≡ true → join s k ≡ s
+join-same s k e = λ j i. split-eq k i (λ q. ap (join s k) (sym q) ∙ join-here s k ∙ sym e ∙ ap s q) (λ n. join-there s k i n) j
+
+pub leave-same : (s : Ids) (k : ℕ) → s k ≡ false → leave s k ≡ s
+leave-same s k e = λ j i. split-eq k i (λ q. ap (leave s k) (sym q) ∙ leave-here s k ∙ sym e ∙ ap s q) (λ n. leave-there s k i n) j
+
+-- a list that makes the empty set is empty
+pub none-listed : (xs : List ℕ) → idsOf xs ≡ no-ids → length xs ≡ 0
+none-listed [] e = refl
+none-listed (x ∷ xs) e = true-false (sym (idsOf-here x xs) ∙ ap (λ (s : Ids). s x) e)
+
+-- two sets with the same numbers are equal
+pub same-ids : (s t : Ids) → ((i : ℕ) → s i ≡ true → t i ≡ true) → ((i : ℕ) → t i ≡ true → s i ≡ true) → s ≡ t
+same-ids s t f g = λ j i. same-test (s i) (t i) (f i) (g i) j

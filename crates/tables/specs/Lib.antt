@@ -1,0 +1,5 @@
+pub mod Rows
+pub mod IdTable
+pub mod IntervalTable
+pub mod SyncTable
+pub mod Laws
