@@ -1,6 +1,5 @@
 -- A table of ids with values and its map, over any value: what each change does to the map, the questions in the map's words, and that a
--- change keeps `Counted`, the arrays' lengths and a test of the values. Of an interval table t these are laws at `intervalRows t`, of the
--- sync table at `syncRows t`.
+-- change keeps `Counted`, the arrays' lengths and a test of the values. An interval table t is `intervalRows t`, a sync table `syncRows t`.
 use Prim.Native.Nat.{ℕ, _+_, _-_, _≤_, _<_}
 use mathlib.Core.Bool.{Bool, true, false, cond}
 use mathlib.Core.Path.{_≡_, refl, sym, _∙_, ap, subst}
@@ -13,7 +12,7 @@ use lib.Seq.{length-take-le, getD-take}
 use borrow.Author.Tests.{lt-ltb, le-ltb, le-leb}
 use Rattle.laws.specs.Choice.{also, also-false, split-bool, split-le}
 use Rattle.laws.specs.Fold.{every}
-use Rattle.laws.specs.Maps.{Values, values-bind, values-unbind, keys-bind, mapOf-keys, mapOf-none, unbind-same, values-of, of-values}
+use Rattle.laws.specs.Maps.{Values, values-unbind, keys-bind, mapOf-keys, mapOf-none, unbind-same, values-of, of-values}
 use Rattle.laws.specs.Sets.{Ids, join, no-keys, bind, unbind, isKey, keys, idsOf, mapOf, AtMost, same-value}
 use Rattle.tables.specs.Rows.{placeOf, Counted, hasRoom, askAdd, inUse, filled, Rows, rowMap, addedRow, removedRow}
 use Rattle.tables.specs.Laws.Places.{place-below, place-out, place-id, place-value, held-at}
@@ -91,9 +90,6 @@ module _ {A : Type 0} (r : Rows A) where
     -- one more
     pub rows-added : (id : ℕ) (v : A) → r .count < length (r .ids) → rowMap r id ≡ none → rowMap (addedRow r id v) ≡ bind (rowMap r) id v
     rows-added id v h e = ap rowMap (added-is id v h) ∙ map-added (r .ids) (r .values) (r .count) id v h (omega arith) (rows-new id e)
-
-    pub rows-added-values : (P : A → Type 0) (id : ℕ) (v : A) → r .count < length (r .ids) → rowMap r id ≡ none → Values P (rowMap r) → P v → Values P (rowMap (addedRow r id v))
-    rows-added-values P id v h e f q = subst (Values P) (sym (rows-added id v h e)) (values-bind P (rowMap r) id v f q)
 
     module _ (most : ℕ) (c : Counted most (r .count) (r .ids)) where
       -- what stands at a place in use is in the map
