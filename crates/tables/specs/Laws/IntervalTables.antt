@@ -2,12 +2,13 @@
 -- holds the sameIds ids as a table of ids.
 use Prim.Native.Nat.{ℕ, _<_}
 use mathlib.Core.Bool.{true}
-use mathlib.Core.Path.{_≡_, refl, sym, _∙_, subst}
+use mathlib.Core.Path.{_≡_, refl, sym, _∙_, ap, subst}
 use mathlib.Core.Option.{Option, none, some}
+use native.Mathlib.Omega.{arith}
 use lib.ListN.{length, take, getD}
 use Rattle.laws.specs.Choice.{ruin}
 use Rattle.laws.specs.Maps.{Values, values-bind}
-use Rattle.laws.specs.Sets.{no-keys, bind, unbind, keys, mapOf}
+use Rattle.laws.specs.Sets.{Map, no-keys, bind, unbind, keys, mapOf}
 use Rattle.layout.specs.declared.geometry.Geometry.{Geometry}
 use Rattle.interval.specs.declared.interval.JournalInterval.{JournalInterval}
 use Rattle.interval.specs.Interval.{interval, contiguousJournalInterval}
@@ -15,12 +16,12 @@ use Rattle.interval.specs.Facts.{ContiguousJournalInterval, contiguous-facts, f
 use Rattle.tables.specs.declared.id_table.IdTable.{IdTable}
 use Rattle.tables.specs.declared.interval_table.IntervalTable.{IntervalTable}
 use Rattle.tables.specs.declared.interval_table.Held.the-variants as held
-use Rattle.tables.specs.Rows.{placeOf, Counted, sameIds}
+use Rattle.tables.specs.Rows.{placeOf, Counted, hasRoom, sameIds}
 use Rattle.tables.specs.IdTable.{idSet}
 use Rattle.tables.specs.IntervalTable.{intervalRows, intervalMap, noIntervals, SizedIntervals, validIntervals, heldOf, addedInterval, removedInterval}
-use Rattle.tables.specs.Laws.Counts.{Addable}
+use Rattle.tables.specs.Laws.Counts.{Addable, room-array}
 use Rattle.tables.specs.Laws.Places.{same-sets, sets-same}
-use Rattle.tables.specs.Laws.RowTables.{Level, rows-keys, rows-added, rows-removed, rows-left, rows-removed-values, rows-added-ok, rows-removed-ok, rows-values, values-rows, added-ids-long, added-values-long, removed-ids-long, removed-values-long}
+use Rattle.tables.specs.Laws.RowTables.{Level, rows-keys, rows-new, rows-addable, rows-second, rows-added, rows-removed, rows-left, rows-removed-values, rows-added-ok, rows-removed-ok, rows-values, values-rows, added-ids-long, added-values-long, removed-ids-long, removed-values-long}
 
 -- the empty table
 pub intervals-empty : intervalMap noIntervals ≡ no-keys
@@ -109,3 +110,17 @@ module _ (t : IntervalTable) where
 
     pub facts-same : keys (intervalMap t) ≡ idSet a → sameIds (take (a .count) (a .ids)) (take (t .count) (t .ids)) ≡ true
     facts-same e = sets-same (take (a .count) (a .ids)) (take (t .count) (t .ids)) (sym e ∙ rows-keys (intervalRows t) (level-intervals l))
+
+-- two more, new and different, where there is room for two
+module _ (t : IntervalTable) (l : SizedIntervals t) (most id1 id2 : ℕ) (v1 v2 : JournalInterval) (e : hasRoom most (t .count) 2 (t .ids) ≡ true) where
+  pub intervals-second : intervalMap t id2 ≡ none → (id2 ≡ id1 → ⊥) → Addable most (addedInterval t id1 v1 .count) (addedInterval t id1 v1 .ids) id2
+  unfolding addedInterval
+  intervals-second n o = rows-second (intervalRows t) most id1 id2 v1 e (rows-new (intervalRows t) (level-intervals t l) id2 n) o
+
+  pub intervals-added-two : intervalMap t id1 ≡ none → intervalMap t id2 ≡ none → (id2 ≡ id1 → ⊥)
+      → intervalMap (addedInterval (addedInterval t id1 v1) id2 v2) ≡ bind (bind (intervalMap t) id1 v1) id2 v2
+  intervals-added-two n1 n2 o =
+      let a = intervals-second n2 o in
+      let k = room-array most (t .count) (t .ids) 2 e in
+      intervals-added (addedInterval t id1 v1) (sized-added-intervals t l id1 v1) id2 v2 (a .free) (rows-addable (intervalRows (addedInterval t id1 v1)) most id2 a)
+      ∙ ap (λ (m : Map JournalInterval). bind m id2 v2) (intervals-added t l id1 v1 (omega arith) n1)

@@ -16,7 +16,7 @@ use Rattle.laws.specs.Sets.{Ids, join, no-keys, bind, unbind, each, keys, idsOf
 use Rattle.tables.specs.declared.sync_table.SyncTable.{SyncTable}
 use Rattle.tables.specs.Rows.{placeOf, Counted, askAdd}
 use Rattle.tables.specs.SyncTable.{syncRows, stateMap, syncMap, noSyncs, SizedSyncs, okState, validStates, orZero, addedSync, removedSync, moved, movedSyncs}
-use Rattle.tables.specs.Laws.Counts.{Addable, add-few, few-add}
+use Rattle.tables.specs.Laws.Counts.{Addable, add-few, few-add, count-few, few-count}
 use Rattle.tables.specs.Laws.RowTables.{Level, rows-keys, rows-added, rows-left, rows-new, rows-values, rows-added-ok, rows-removed-ok, rows-added-valid, rows-removed-valid, added-ids-long, added-values-long, removed-ids-long, removed-values-long}
 
 -- the empty table
@@ -132,6 +132,13 @@ module _ (t : SyncTable) where
         pub syncs-left : (id : ℕ) → syncMap f (removedSync t (placeOf id (take (t .count) (t .ids)))) ≡ unbind (syncMap f t) id
         unfolding removedSync
         syncs-left id = ap (each f) (rows-left (syncRows t) (level-syncs l) most c 0 id) ∙ each-unbind f (stateMap t) id
+
+        -- the count against a bound on the keys
+        pub syncs-few : (n : ℕ) → t .count ≤ n → AtMost n (keys (syncMap f t))
+        syncs-few n h = subst (AtMost n) (sym syncs-keys) (count-few most (t .count) (t .ids) c n h)
+
+        pub few-syncs : (n : ℕ) → AtMost n (keys (syncMap f t)) → t .count ≤ n
+        few-syncs n m = few-count most (t .count) (t .ids) c n (subst (AtMost n) syncs-keys m)
 
         -- questions 5 and 8 in the map's words
         bound-keys : (id : ℕ) (a : A) → keys (bind (syncMap f t) id a) ≡ join (idsOf (take (t .count) (t .ids))) id
