@@ -51,7 +51,10 @@ module _ {ℓ} {A : Type ℓ} where
       (λ h. rw (min-eq-left h))
       (λ h. rw (min-eq-right (le-of-lt h)) (take-all r xs (omega arith) ∙ sym (take-all n xs (omega arith))))
 
-  -- a part whose start and end are cut at the list's
+  -- a front, and a part, whose ends are cut at the list's
+  pub front-cut : (xs : List A) (n k : ℕ) → k ≡ min n (length xs) → take (k - 0) xs ≡ take n xs
+  front-cut xs n k h = ap (λ (m : ℕ). take m xs) (sub-zero k ∙ h) ∙ take-min xs n (length xs) refl
+
   pub part-cut : (xs : List A) (at n start end : ℕ) → start ≡ min at (length xs) → end ≡ start + min n (length xs - at)
       → take (end - start) (drop start xs) ≡ take n (drop at xs)
   part-cut xs at n start end hs he =
