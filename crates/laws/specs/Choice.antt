@@ -139,6 +139,19 @@ pub andThen-both : (q r : ℕ) → q ≡ 0 → r ≡ 0 → andThen q r ≡ 0
 unfolding andThen
 andThen-both q r hq hr = simp (eq-eqb q 0 hq) hr
 
+-- a yes leaves the answer to the next question, and a last yes changes nothing
+pub andThen-done : (q r : ℕ) → q ≡ 0 → andThen q r ≡ r
+unfolding andThen
+andThen-done q r h = simp (eq-eqb q 0 h)
+
+pub andThen-end : (q : ℕ) → andThen q 0 ≡ q
+unfolding andThen
+andThen-end q = go (eqb q 0) refl
+  where
+    go : (b : Bool) → eqb q 0 ≡ b → cond b 0 q ≡ q
+    go true e = sym (eqb-true q 0 e)
+    go false e = refl
+
 -- the first no is the answer
 pub andThen-first : (q r : ℕ) → (q ≡ 0 → ⊥) → andThen q r ≡ q
 unfolding andThen

@@ -51,6 +51,10 @@ module _ {ℓ} {A : Type ℓ} where
       (λ h. rw (min-eq-left h))
       (λ h. rw (min-eq-right (le-of-lt h)) (take-all r xs (omega arith) ∙ sym (take-all n xs (omega arith))))
 
+  -- a front whose end is cut at the list's
+  pub front-cut : (xs : List A) (n k : ℕ) → k ≡ min n (length xs) → take (k - 0) xs ≡ take n xs
+  front-cut xs n k h = ap (λ (m : ℕ). take m xs) (sub-zero k ∙ h) ∙ take-min xs n (length xs) refl
+
   -- a front of a front is the shorter one
   pub take-front : (m n : ℕ) (xs : List A) → take m (take n xs) ≡ take (min m n) xs
   take-front m n xs =

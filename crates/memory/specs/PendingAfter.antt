@@ -14,7 +14,7 @@ use Rattle.laws.specs.Fold.{sum, every, every-append, every-drop}
 use Rattle.range.specs.Form.{MostEntryLength, okLength}
 use Rattle.range.specs.Memory.{total, total-write, total-split, view-add, view-moved}
 use Rattle.memory.specs.declared.limits.Limits.{Limits}
-use Rattle.memory.specs.Entries.{Memory, bytesOf, entriesOf}
+use Rattle.memory.specs.Given.{Memory, bytesOf, entriesOf}
 use Rattle.memory.specs.Pending.{askPending, askAppend, appended, askTakeFront, frontTaken}
 use Rattle.memory.specs.PendingLaws.{asked-pending, append-asked, front-pending, front-few}
 
@@ -23,22 +23,22 @@ module _ (l : Limits) (m e : Memory) (q : askAppend l m e ≡ 0) where
   room : bytesOf m + length (take (bytesOf e) (e .bytes)) ≤ length (m .bytes)
   room =
       let a = append-asked l m e q in
-      omega (arith, a .bytes-fit, a .pending .lent .bytes-lent, length-take-le (bytesOf e) (e .bytes) (a .given .fit))
+      omega (arith, a .bytes-fit, a .pending .lent .bytes-lent, length-take-le (bytesOf e) (e .bytes) (a .given .held .fit))
 
   places : m .count + length (take (e .count) (e .lens)) ≤ length (m .lens)
   places =
       let a = append-asked l m e q in
-      omega (arith, a .entries-fit, a .pending .lent .lens-lent, length-take-le (e .count) (e .lens) (a .given .there))
+      omega (arith, a .entries-fit, a .pending .lent .lens-lent, length-take-le (e .count) (e .lens) (a .given .held .there))
 
   many : m .count + e .count ≡ m .count + length (take (e .count) (e .lens))
-  many = ap (λ (n : ℕ). m .count + n) (sym (length-take-le (e .count) (e .lens) (append-asked l m e q .given .there)))
+  many = ap (λ (n : ℕ). m .count + n) (sym (length-take-le (e .count) (e .lens) (append-asked l m e q .given .held .there)))
 
   -- the old entries, then the new ones
   pub appended-entries : entriesOf (appended m e) ≡ entriesOf m ++ entriesOf e
   appended-entries =
       let a = append-asked l m e q in
       view-add (m .bytes) (m .lens) (e .bytes) (e .lens) (m .count) (e .count) (bytesOf m) (bytesOf e) (m .count + e .count)
-      (a .pending .held .there) (a .given .there) refl refl (omega (arith, a .pending .held .fit, a .pending .lent .bytes-lent)) (a .given .fit) refl
+      (a .pending .held .there) (a .given .held .there) refl refl (omega (arith, a .pending .held .fit, a .pending .lent .bytes-lent)) (a .given .held .fit) refl
 
   pub appended-bytes : bytesOf (appended m e) ≡ bytesOf m + bytesOf e
   appended-bytes =
@@ -55,7 +55,7 @@ module _ (l : Limits) (m e : Memory) (q : askAppend l m e ≡ 0) where
       let a = append-asked l m e q in
       ap (every (okLength MostEntryLength)) appended-lens
       ∙ every-append (okLength MostEntryLength) (take (m .count) (m .lens)) (take (e .count) (e .lens))
-      ∙ also-both _ _ (a .pending .held .each) (a .given .each)
+      ∙ also-both _ _ (a .pending .held .each) (a .given .held .each)
 
   -- questions 1 and 2 again
   pub appended-asked : askPending l (appended m e) ≡ 0
@@ -74,7 +74,7 @@ module _ (l : Limits) (m e : Memory) (q : askAppend l m e ≡ 0) where
             };
         held =
             record {
-              few = a .entries-fit;
+              order = omega arith;
               there = omega (arith, lens, a .pending .lent .lens-lent, a .entries-fit);
               each = appended-each;
               fit = omega (arith, appended-bytes, a .bytes-fit);
@@ -85,7 +85,7 @@ module _ (l : Limits) (m e : Memory) (q : askAppend l m e ≡ 0) where
   pub appended-bytes-behind : drop (bytesOf (appended m e)) (appended m e .bytes) ≡ drop (bytesOf (appended m e)) (m .bytes)
   appended-bytes-behind =
       let n : bytesOf (appended m e) ≡ bytesOf m + length (take (bytesOf e) (e .bytes)) =
-      appended-bytes ∙ ap (λ (k : ℕ). bytesOf m + k) (sym (length-take-le (bytesOf e) (e .bytes) (append-asked l m e q .given .fit))) in
+      appended-bytes ∙ ap (λ (k : ℕ). bytesOf m + k) (sym (length-take-le (bytesOf e) (e .bytes) (append-asked l m e q .given .held .fit))) in
       ap (λ (k : ℕ). drop k (appended m e .bytes)) n
       ∙ drop-splice (m .bytes) (bytesOf m) (take (bytesOf e) (e .bytes)) (omega (arith, room))
       ∙ ap (λ (k : ℕ). drop k (m .bytes)) (sym n)
@@ -150,7 +150,7 @@ module _ (l : Limits) (m : Memory) (k : ℕ) (q : askTakeFront l m k ≡ 0) wher
             };
         held =
             record {
-              few = omega (arith, p .held .few);
+              order = omega arith;
               there = omega (arith, lens, p .held .there);
               each = front-each;
               fit = omega (arith, front-taken-bytes, p .held .fit);
