@@ -32,7 +32,9 @@ use Rattle.range.specs.Memory.{view}
 use Rattle.writer.specs.declared.answer.Written.{Written}
 use Rattle.writer.specs.declared.answer.Written.the-variants as write
 use Rattle.writer.specs.Answer.{written}
-use Rattle.writer.specs.Entries.{entriesOk}
+use Rattle.lengths.specs.Held.{heldOk}
+use Rattle.lengths.specs.Entries.{entriesOk}
+use Rattle.writer.specs.Entries.{rangeOk}
 use Rattle.writer.specs.Ring.{journalOk, askWrite}
 
 abbrev pub day : Geometry
@@ -95,7 +97,7 @@ pub record Starred : Type 0 where
 
 -- that write is asked of the journal's length alone, and puts a block in front
 asked-41 : (journal : List ℕ) → length journal ≡ 8 * 4096 → askWrite (0x41 ∷ []) (1 ∷ []) 1 journal 0 ≡ 0
-unfolding also ask andThen askWrite journalOk entriesOk okLength view cut lengths sum every
+unfolding also ask andThen askWrite journalOk rangeOk entriesOk heldOk okLength view cut lengths sum every
 asked-41 journal h = simp h
 
 put-41 : (journal : List ℕ) → length journal ≡ 8 * 4096
