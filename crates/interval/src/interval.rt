@@ -61,7 +61,7 @@ impl JournalInterval {
         false
     }
 
-    // The sum is of a valid interval's parts where it counts, and cannot wrap there.
+    // The bare test, for a caller that asks its own questions. The sum is of a valid interval's parts where it counts, and cannot wrap there.
     pub fn contiguous(self, g: Geometry) -> bool
         ensures { λ r. ⌜ r ≡ contiguousJournalInterval g self ⌝ }
     {

@@ -1,7 +1,8 @@
 // Intervals of the journal's ring (source 002, but for what needs a parser). The public face:
 //   JournalInterval   a start and a len in blocks, going round the ring; which are valid, contiguous, within one another, overlap
 //   its parts         front and back, the point after it, two in a row, the interval of a location
-// Every function is total and asks questions 1 and 4: it answers by an enum, the value or the refusal number.
+// Every function is total and asks questions 1 and 4: it answers by an enum, the value or the refusal number. `contiguous` is a bare test,
+// for a caller that asks its own questions.
 mod answer;
 mod interval;
 mod overlap;
