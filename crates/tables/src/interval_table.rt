@@ -114,6 +114,7 @@ impl IntervalTable {
         ask_add(&ids, self.count, id, most)
     }
 
+    // One more at the end; a full table stays as it is.
     pub fn add(mut self, id: u64, v: JournalInterval) -> IntervalTable
         ensures { λ r. ⌜ r ≡ addedInterval self id v ⌝ }
     {
@@ -127,7 +128,7 @@ impl IntervalTable {
         self
     }
 
-    // The last one takes place i.
+    // The last one takes place i; a place that isn't in use changes nothing.
     pub fn remove(mut self, i: usize) -> IntervalTable
         ensures { λ r. ⌜ r ≡ removedInterval self i ⌝ }
     {
