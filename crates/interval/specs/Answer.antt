@@ -1,13 +1,22 @@
 -- What each case of an answer means: document 01's refusal number, 0 where nothing was refused, and the value.
 use Prim.Native.Nat.{ℕ}
 use mathlib.Core.Bool.{cond}
+use mathlib.Core.Path.{_≡_, refl}
 use mathlib.Core.Option.{Option, none, some}
 use lib.Dec.{eqb}
+use Rattle.laws.specs.Choice.{ruin}
 use Rattle.interval.specs.declared.interval.JournalInterval.{JournalInterval}
+use Rattle.interval.specs.declared.answer.MaybeInterval.{MaybeInterval}
+use Rattle.interval.specs.declared.answer.MaybeInterval.the-variants as interval
 use Rattle.interval.specs.declared.answer.Spanned.{Spanned}
 use Rattle.interval.specs.declared.answer.Spanned.the-variants as spanned
 use Rattle.interval.specs.declared.answer.MaybeSpanned.{MaybeSpanned}
 use Rattle.interval.specs.declared.answer.MaybeSpanned.the-variants as maybe
+
+-- from an option to the case
+abbrev pub maybeInterval : Option JournalInterval → MaybeInterval
+maybeInterval none = interval.Nothing
+maybeInterval (some v) = interval.Is v
 
 -- from the number and the value to the case
 abbrev pub spannedBy : ℕ → JournalInterval → Spanned
@@ -19,3 +28,12 @@ something (some v) = maybe.Is v
 
 abbrev pub maybeSpanned : ℕ → Option JournalInterval → MaybeSpanned
 maybeSpanned q o = cond (eqb q 0) (something o) (maybe.Refused q)
+
+-- what a part tells that was taken apart
+pub interval-is : (o : Option JournalInterval) (v : JournalInterval) → maybeInterval o ≡ interval.Is v → o ≡ some v
+interval-is none v e = ruin (cc)
+interval-is (some w) v e = cc
+
+pub interval-none : (o : Option JournalInterval) → maybeInterval o ≡ interval.Nothing → o ≡ none
+interval-none none e = refl
+interval-none (some w) e = ruin (cc)

@@ -1,4 +1,5 @@
 // An interval of the journal's ring: a start (0 to N - 1) and a len (0 to N), both in blocks, going round.
+use super::answer::MaybeInterval;
 use super::answer::MaybeSpanned;
 use super::answer::Spanned;
 use layout::Decision;
@@ -6,13 +7,13 @@ use layout::Geometry;
 use layout::Location;
 use layout::Position;
 ghost use mathlib.Core.Path.{_≡_};
-ghost use Prim.Native.Nat.{_+_, _≤_};
+ghost use Prim.Native.Nat.{_+_, _-_, _≤_};
 ghost use lib.Dec.{leb, ltb};
 ghost use Rattle.laws.specs.Choice.{also};
 ghost use Rattle.layout.specs.Answer.{decided, positioned};
 ghost use Rattle.layout.specs.Geometry.{askGeometry, ValidGeometry};
 ghost use Rattle.layout.specs.Journal.{askJournalLocation};
-ghost use Rattle.interval.specs.Answer.{spannedBy, maybeSpanned};
+ghost use Rattle.interval.specs.Answer.{spannedBy, maybeInterval, maybeSpanned};
 ghost use Rattle.interval.specs.Facts.{ValidJournalInterval};
 ghost use Rattle.interval.specs.Interval.{validJournalInterval, contiguousJournalInterval, inCyclicRange, JournalFrontInterval, JournalBackInterval, subinterval, NextStartPoint, concatIntervals, JournalIntervalOfLocation, askInterval, askIntervals, askInRow, askBlock};
 
@@ -52,7 +53,8 @@ impl JournalInterval {
         4
     }
 
-    pub(crate) fn valid(self, g: Geometry) -> bool
+    // A start below N and a len of at most N?
+    pub fn valid(self, g: Geometry) -> bool
         ensures { λ r. ⌜ r ≡ validJournalInterval g self ⌝ }
     {
         if self.start < g.blocks {
@@ -61,7 +63,7 @@ impl JournalInterval {
         false
     }
 
-    // The sum is of a valid interval's parts where it counts, and cannot wrap there.
+    // Valid, and not past the ring's end? The len is compared with what is left to the end, so that no sum can wrap.
     pub fn contiguous(self, g: Geometry) -> bool
         ensures { λ r. ⌜ r ≡ contiguousJournalInterval g self ⌝ }
     {
@@ -72,7 +74,7 @@ impl JournalInterval {
         false
     }
 
-    // A start below N and a len of at most N?
+    // `valid`, after question 1.
     pub fn valid_journal_interval(self, g: Geometry) -> Decision
         ensures { λ r. ⌜ r ≡ decided (askGeometry g) (validJournalInterval g self) ⌝ }
     {
@@ -84,7 +86,7 @@ impl JournalInterval {
         Decision::Is(b)
     }
 
-    // Valid, and not past the ring's end?
+    // `contiguous`, after question 1.
     pub fn contiguous_journal_interval(self, g: Geometry) -> Decision
         ensures { λ r. ⌜ r ≡ decided (askGeometry g) (contiguousJournalInterval g self) ⌝ }
     {
@@ -133,7 +135,54 @@ impl JournalInterval {
         4
     }
 
+    // How many blocks the ring has from the start on: none where the start lies past its end.
+    pub(crate) fn to_end(self, g: Geometry) -> u64
+        ensures { λ r. ⌜ r ≡ g .blocks - self .start ⌝ }
+    {
+        if g.blocks <= self.start {
+            return 0;
+        }
+        g.blocks - self.start
+    }
+
     // The part up to the ring's end.
+    pub fn front(self, g: Geometry) -> MaybeInterval
+        ensures { λ r. ⌜ r ≡ maybeInterval (JournalFrontInterval g (self .start) (self .len)) ⌝ }
+    {
+        if self.len == 0 {
+            return MaybeInterval::Nothing;
+        }
+        let left = self.to_end(g);
+        if self.len <= left {
+            return MaybeInterval::Is(JournalInterval {
+                start: self.start,
+                len: self.len,
+            });
+        }
+        MaybeInterval::Is(JournalInterval {
+            start: self.start,
+            len: left,
+        })
+    }
+
+    // The part from the ring's first block on, where the interval passes the end.
+    pub fn back(self, g: Geometry) -> MaybeInterval
+        ensures { λ r. ⌜ r ≡ maybeInterval (JournalBackInterval g (self .start) (self .len)) ⌝ }
+    {
+        if self.len == 0 {
+            return MaybeInterval::Nothing;
+        }
+        let left = self.to_end(g);
+        if self.len <= left {
+            return MaybeInterval::Nothing;
+        }
+        MaybeInterval::Is(JournalInterval {
+            start: 0,
+            len: self.len - left,
+        })
+    }
+
+    // `front` and `back`, after questions 1 and 4.
     pub fn journal_front_interval(self, g: Geometry) -> MaybeSpanned
         ensures { λ r. ⌜ r ≡ maybeSpanned (askInterval g self) (JournalFrontInterval g (self .start) (self .len)) ⌝ }
     {
@@ -141,22 +190,13 @@ impl JournalInterval {
         if q != 0 {
             return MaybeSpanned::Refused(q);
         }
-        if self.len == 0 {
+        let part = self.front(g);
+        let MaybeInterval::Is(v) = part else {
             return MaybeSpanned::Nothing;
-        }
-        if self.len <= g.blocks - self.start {
-            return MaybeSpanned::Is(JournalInterval {
-                start: self.start,
-                len: self.len,
-            });
-        }
-        MaybeSpanned::Is(JournalInterval {
-            start: self.start,
-            len: g.blocks - self.start,
-        })
+        };
+        MaybeSpanned::Is(v)
     }
 
-    // The part from the ring's first block on, where the interval passes the end.
     pub fn journal_back_interval(self, g: Geometry) -> MaybeSpanned
         ensures { λ r. ⌜ r ≡ maybeSpanned (askInterval g self) (JournalBackInterval g (self .start) (self .len)) ⌝ }
     {
@@ -164,16 +204,11 @@ impl JournalInterval {
         if q != 0 {
             return MaybeSpanned::Refused(q);
         }
-        if self.len == 0 {
+        let part = self.back(g);
+        let MaybeInterval::Is(v) = part else {
             return MaybeSpanned::Nothing;
-        }
-        if self.len <= g.blocks - self.start {
-            return MaybeSpanned::Nothing;
-        }
-        MaybeSpanned::Is(JournalInterval {
-            start: 0,
-            len: self.len - (g.blocks - self.start),
-        })
+        };
+        MaybeSpanned::Is(v)
     }
 
     // Does an interval that begins at `start` and has this one's len lie within `other`, counted without going round?

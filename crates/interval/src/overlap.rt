@@ -3,12 +3,21 @@ use super::interval::JournalInterval;
 use layout::Decision;
 use layout::Geometry;
 ghost use mathlib.Core.Path.{_≡_};
-ghost use Prim.Native.Nat.{_+_, _≤_};
+ghost use Prim.Native.Nat.{_+_, _-_};
+ghost use lib.Dec.{ltb};
 ghost use Rattle.layout.specs.Answer.{decided};
-ghost use Rattle.layout.specs.Geometry.{ValidGeometry};
-ghost use Rattle.interval.specs.Facts.{ValidJournalInterval};
 ghost use Rattle.interval.specs.Interval.{askIntervals, askContiguous};
 ghost use Rattle.interval.specs.Overlap.{journalIntervalOverlap, journalCyclicIntervalOverlap, overlapParts};
+
+// a less b, cut at 0.
+fn less(a: u64, b: u64) -> u64
+    ensures { λ r. ⌜ r ≡ a - b ⌝ }
+{
+    if a <= b {
+        return 0;
+    }
+    a - b
+}
 
 impl JournalInterval {
     // Questions 1 and 4, of two contiguous intervals.
@@ -27,46 +36,57 @@ impl JournalInterval {
         4
     }
 
+    // Does it end after block x, counted without going round? Told by a difference, so that no sum can wrap.
+    fn ends_after(self, x: u64) -> bool
+        ensures { λ r. ⌜ r ≡ ltb x (self .start + self .len) ⌝ }
+    {
+        if x < self.start {
+            return true;
+        }
+        x - self.start < self.len
+    }
+
     // The plain test, counted without going round.
     fn meets(self, other: JournalInterval) -> bool
-        requires { ⌜ (self .start + self .len ≤ 18446744073709551615) × (other .start + other .len ≤ 18446744073709551615) ⌝ }
         ensures { λ r. ⌜ r ≡ journalIntervalOverlap self other ⌝ }
     {
-        let a = other.start < self.start + self.len;
-        let b = self.start < other.start + other.len;
+        let a = self.ends_after(other.start);
+        let b = other.ends_after(self.start);
         a & b
     }
 
-    // One of the two parts of an interval that passes the end meets a contiguous one.
+    // Does one of the two parts of an interval that passes the end meet a contiguous one?
     fn parts_meet(self, other: JournalInterval, g: Geometry) -> bool
-        requires { ⌜ ValidGeometry g × ValidJournalInterval g self × (g .blocks ≤ self .start + self .len) × ValidJournalInterval g other ⌝ }
         ensures { λ r. ⌜ r ≡ overlapParts g self other ⌝ }
     {
+        let left = self.to_end(g);
         let front = JournalInterval {
             start: self.start,
-            len: g.blocks - self.start,
+            len: left,
         };
+        let rest = less(self.len, left);
         let back = JournalInterval {
             start: 0,
-            len: self.len - (g.blocks - self.start),
+            len: rest,
         };
         let a = front.meets(other);
         let b = back.meets(other);
         a | b
     }
 
-    // The cyclic test, of two valid intervals.
-    fn meets_around(self, other: JournalInterval, g: Geometry) -> bool
-        requires { ⌜ ValidGeometry g × ValidJournalInterval g self × ValidJournalInterval g other ⌝ }
+    // The cyclic test.
+    pub fn overlaps(self, other: JournalInterval, g: Geometry) -> bool
         ensures { λ r. ⌜ r ≡ journalCyclicIntervalOverlap g self other ⌝ }
     {
-        if g.blocks < self.start + self.len {
-            if g.blocks < other.start + other.len {
+        let a = self.ends_after(g.blocks);
+        let b = other.ends_after(g.blocks);
+        if a {
+            if b {
                 return true;
             }
             return self.parts_meet(other, g);
         }
-        if g.blocks < other.start + other.len {
+        if b {
             return other.parts_meet(self, g);
         }
         self.meets(other)
@@ -84,7 +104,7 @@ impl JournalInterval {
         Decision::Is(b)
     }
 
-    // Do two intervals overlap on the ring?
+    // `overlaps`, after questions 1 and 4.
     pub fn journal_cyclic_interval_overlap(self, other: JournalInterval, g: Geometry) -> Decision
         ensures { λ r. ⌜ r ≡ decided (askIntervals g self other) (journalCyclicIntervalOverlap g self other) ⌝ }
     {
@@ -92,7 +112,7 @@ impl JournalInterval {
         if q != 0 {
             return Decision::Refused(q);
         }
-        let b = self.meets_around(other, g);
+        let b = self.overlaps(other, g);
         Decision::Is(b)
     }
 }

@@ -154,18 +154,6 @@ unfolding ask
 ask-fails n true e = true-false e
 ask-fails n false e = refl
 
-pub unless-kept {ℓ} : {A : Type ℓ} (q : ℕ) (old new : A) → (q ≡ 0 → ⊥) → unless q old new ≡ old
-unfolding unless
-unless-kept q old new h = simp (ne-eqb q 0 h)
-
-pub unless-done {ℓ} : {A : Type ℓ} (q : ℕ) (old new : A) → q ≡ 0 → unless q old new ≡ new
-unfolding unless
-unless-done q old new h = simp (eq-eqb q 0 h)
-
--- the same for a step that has the refusal in a number of its own
-pub refused-kept {ℓ} : {A : Type ℓ} (r q : ℕ) (old new : A) → r ≡ q → (r ≡ 0 → ⊥) → old ≡ unless q old new
-refused-kept r q old new e h = sym (unless-kept q old new (λ z. h (e ∙ z)))
-
 -- the two cases of a test: a fact about the chosen value follows from one about each
 pub by-leb {ℓ κ} : {A : Type ℓ} (P : A → Type κ) (m n : ℕ) (x y : A) → (m ≤ n → P x) → (n < m → P y) → P (cond (leb m n) x y)
 by-leb P m n x y f g = go (leb m n) refl
@@ -187,6 +175,32 @@ by-eqb P m n x y f g = go (eqb m n) refl
     go : (b : Bool) → eqb m n ≡ b → P (cond b x y)
     go true e = f (eqb-true m n e)
     go false e = g (eqb-false m n e)
+
+-- an answer that one number decides, one thing where it is 0 and another where it isn't: from the number to the answer, and back
+module _ {ℓ} {A : Type ℓ} (q : ℕ) (yes no : A) where
+  pub asked-yes : q ≡ 0 → cond (eqb q 0) yes no ≡ yes
+  asked-yes h = simp (eq-eqb q 0 h)
+
+  pub asked-no : (q ≡ 0 → ⊥) → cond (eqb q 0) yes no ≡ no
+  asked-no h = simp (ne-eqb q 0 h)
+
+  pub asked-either : (r : A) → cond (eqb q 0) yes no ≡ r → ((q ≡ 0) × (yes ≡ r)) ⊎ ((q ≡ 0 → ⊥) × (no ≡ r))
+  asked-either r =
+      by-eqb (λ (a : A). a ≡ r → ((q ≡ 0) × (yes ≡ r)) ⊎ ((q ≡ 0 → ⊥) × (no ≡ r))) q 0 yes no
+      (λ h e. inl (h, e))
+      (λ h e. inr (h, e))
+
+pub unless-kept {ℓ} : {A : Type ℓ} (q : ℕ) (old new : A) → (q ≡ 0 → ⊥) → unless q old new ≡ old
+unfolding unless
+unless-kept q old new h = asked-no q new old h
+
+pub unless-done {ℓ} : {A : Type ℓ} (q : ℕ) (old new : A) → q ≡ 0 → unless q old new ≡ new
+unfolding unless
+unless-done q old new h = asked-yes q new old h
+
+-- the same for a step that has the refusal in a number of its own
+pub refused-kept {ℓ} : {A : Type ℓ} (r q : ℕ) (old new : A) → r ≡ q → (r ≡ 0 → ⊥) → old ≡ unless q old new
+refused-kept r q old new e h = sym (unless-kept q old new (λ z. h (e ∙ z)))
 
 -- a bare dichotomy of two numbers, and of a test
 pub split-le {κ} : {P : Type κ} (m n : ℕ) → (m ≤ n → P) → (n < m → P) → P

@@ -1,12 +1,12 @@
 -- What each case of an answer means: document 01's refusal number, 0 where nothing was refused, and the value. A promise gives the
 -- number and the value, and these definitions give the case.
 use Prim.Native.Nat.{ℕ}
-use mathlib.Core.Bool.{Bool, true, false, cond}
-use mathlib.Core.Path.{_≡_, refl}
+use mathlib.Core.Bool.{Bool, cond}
+use mathlib.Core.Path.{_≡_}
+use mathlib.Core.Logic.{⊎-elim}
 use mathlib.Core.Option.{Option, none, some}
 use lib.Dec.{eqb}
-use borrow.Author.Tests.{eqb-true}
-use Rattle.laws.specs.Choice.{ruin}
+use Rattle.laws.specs.Choice.{ruin, asked-either}
 use Rattle.layout.specs.declared.location.Location.{Location}
 use Rattle.layout.specs.declared.answer.Address.{Address}
 use Rattle.layout.specs.declared.answer.Address.the-variants as address
@@ -39,17 +39,15 @@ somewhere (some l) = maybe.At l
 abbrev pub maybeLocated : ℕ → Option Location → MaybeLocated
 maybeLocated q o = cond (eqb q 0) (somewhere o) (maybe.Refused q)
 
--- what a decision tells: the value of a test where nothing was refused, or a refusal that no test changes
-pub decided-is : (q : ℕ) (b v : Bool) → decided q b ≡ decision.Is v → (q ≡ 0) × (b ≡ v)
-decided-is q b v = go (eqb q 0) refl
-  where
-    go : (t : Bool) → eqb q 0 ≡ t → cond t (decision.Is b) (decision.Refused q) ≡ decision.Is v → (q ≡ 0) × (b ≡ v)
-    go true e h = (eqb-true q 0 e, cc)
-    go false e h = ruin (cc)
+-- what an answer tells that was taken apart: a yes to every question and the value, or the number of the no
+pub decided-so : (q : ℕ) (b v : Bool) → decided q b ≡ decision.Is v → (q ≡ 0) × (b ≡ v)
+decided-so q b v e = ⊎-elim (λ h. (h .0, cc)) (λ h. ruin (cc)) (asked-either q (decision.Is b) (decision.Refused q) (decision.Is v) e)
 
-pub decided-refused : (q : ℕ) (b b′ : Bool) (r : ℕ) → decided q b ≡ decision.Refused r → decided q b ≡ decided q b′
-decided-refused q b b′ r = go (eqb q 0)
-  where
-    go : (t : Bool) → cond t (decision.Is b) (decision.Refused q) ≡ decision.Refused r → cond t (decision.Is b) (decision.Refused q) ≡ cond t (decision.Is b′) (decision.Refused q)
-    go true h = ruin (cc)
-    go false h = refl
+pub decided-no : (q : ℕ) (b : Bool) (r : ℕ) → decided q b ≡ decision.Refused r → (q ≡ 0 → ⊥) × (q ≡ r)
+decided-no q b r e = ⊎-elim (λ h. ruin (cc)) (λ h. (h .0, cc)) (asked-either q (decision.Is b) (decision.Refused q) (decision.Refused r) e)
+
+pub positioned-at : (q p v : ℕ) → positioned q p ≡ position.At v → (q ≡ 0) × (p ≡ v)
+positioned-at q p v e = ⊎-elim (λ h. (h .0, cc)) (λ h. ruin (cc)) (asked-either q (position.At p) (position.Refused q) (position.At v) e)
+
+pub positioned-none : (q p r : ℕ) → positioned q p ≡ position.Refused r → (q ≡ 0 → ⊥) × (q ≡ r)
+positioned-none q p r e = ⊎-elim (λ h. ruin (cc)) (λ h. (h .0, cc)) (asked-either q (position.At p) (position.Refused q) (position.Refused r) e)

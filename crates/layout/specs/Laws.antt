@@ -126,6 +126,32 @@ pub superblock2-is : (loc : Location) → validSuperblock2Location loc ≡ true 
 unfolding validSuperblockLocation validSuperblock2Location
 superblock2-is loc e = either-right _ _ e
 
+-- what source 003 ensures of its two locations and of the two tests: no table, and not in the journal
+module _ (g : Geometry) where
+  pub superblock1-location-not-table : ValidIndirectionTableLocation g Superblock1Location → ⊥
+  superblock1-location-not-table t = below-not-table g Superblock1Location (omega arith) t
+
+  pub superblock1-location-not-journal : ValidJournalLocation g Superblock1Location → ⊥
+  superblock1-location-not-journal j = below-not-journal g Superblock1Location (omega arith) j
+
+  pub superblock2-location-not-table : ValidIndirectionTableLocation g Superblock2Location → ⊥
+  superblock2-location-not-table t = below-not-table g Superblock2Location (omega arith) t
+
+  pub superblock2-location-not-journal : ValidJournalLocation g Superblock2Location → ⊥
+  superblock2-location-not-journal j = below-not-journal g Superblock2Location (omega arith) j
+
+  pub superblock1-not-journal : (loc : Location) → validSuperblock1Location loc ≡ true → ValidJournalLocation g loc → ⊥
+  superblock1-not-journal loc e j = superblock-not-journal g loc (superblock1-is loc e) j
+
+  pub superblock1-not-table : (loc : Location) → validSuperblock1Location loc ≡ true → ValidIndirectionTableLocation g loc → ⊥
+  superblock1-not-table loc e t = superblock-not-table g loc (superblock1-is loc e) t
+
+  pub superblock2-not-journal : (loc : Location) → validSuperblock2Location loc ≡ true → ValidJournalLocation g loc → ⊥
+  superblock2-not-journal loc e j = superblock-not-journal g loc (superblock2-is loc e) j
+
+  pub superblock2-not-table : (loc : Location) → validSuperblock2Location loc ≡ true → ValidIndirectionTableLocation g loc → ⊥
+  superblock2-not-table loc e t = superblock-not-table g loc (superblock2-is loc e) t
+
 -- the location of a range is valid
 pub range-location-valid : (g : Geometry) → ValidGeometry g → (start len : ℕ) → start < g .blocks → start + len ≤ g .blocks → ValidJournalLocation g (JournalRangeLocation g start len)
 range-location-valid g v start len h k = omega arith

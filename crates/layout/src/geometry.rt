@@ -2,6 +2,7 @@
 use super::answer::Address;
 ghost use mathlib.Core.Path.{_≡_};
 ghost use Prim.Native.Nat.{_≤_};
+ghost use lib.Dec.{eqb};
 ghost use Rattle.layout.specs.Answer.{addressed};
 ghost use Rattle.layout.specs.Geometry.{askGeometry, ValidGeometry, IndirectionTable1Addr, IndirectionTable2Addr, JournalEndAddr, JournalPoint, otherIndirectionTableAddr};
 ghost use Rattle.layout.specs.Journal.{askPoint};
@@ -80,6 +81,29 @@ impl Geometry {
         ensures { λ r. ⌜ r ≡ IndirectionTable2Addr self ⌝ }
     {
         2 * Self::BLOCK_SIZE + self.blocks * Self::BLOCK_SIZE + self.table
+    }
+
+    // Is `addr` the address of table 1, of table 2? Exact for any N and T: the address is divided, so that no product or sum can wrap.
+    pub(crate) fn is_table1(self, addr: u64) -> bool
+        ensures { λ r. ⌜ r ≡ eqb addr (IndirectionTable1Addr self) ⌝ }
+    {
+        if addr < Self::JOURNAL_START_ADDR {
+            return false;
+        }
+        let above = addr - Self::JOURNAL_START_ADDR;
+        if above % Self::BLOCK_SIZE == 0 {
+            return above / Self::BLOCK_SIZE == self.blocks;
+        }
+        false
+    }
+
+    pub(crate) fn is_table2(self, addr: u64) -> bool
+        ensures { λ r. ⌜ r ≡ eqb addr (IndirectionTable2Addr self) ⌝ }
+    {
+        if addr < self.table {
+            return false;
+        }
+        self.is_table1(addr - self.table)
     }
 
     pub fn indirection_table1_addr(self) -> Address

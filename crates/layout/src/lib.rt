@@ -3,7 +3,7 @@
 //   Location                 a byte address and a length; which locations are valid, overlap, lie within one another
 //   the journal's locations  of a range, of the front and the back of a circular range; positions on the ring
 // Every function is total. One that needs a geometry or a bounded argument answers by an enum: the value, or the refusal number
-// of question 1 or 4.
+// of question 1 or 4. `Location::valid_table` is the bare test, exact for any geometry.
 mod answer;
 mod geometry;
 mod journal;

@@ -137,22 +137,16 @@ impl Location {
         false
     }
 
-    // A valid table address, in a valid geometry.
     fn at_table(self, g: Geometry) -> bool
-        requires { ⌜ ValidGeometry g ⌝ }
         ensures { λ r. ⌜ r ≡ validIndirectionTableAddr g (self .addr) ⌝ }
     {
-        let first = g.table1();
-        let second = g.table2();
-        if self.addr == first {
-            return true;
-        }
-        self.addr == second
+        let first = g.is_table1(self.addr);
+        let second = g.is_table2(self.addr);
+        first | second
     }
 
-    // A valid table location, in a valid geometry.
-    fn in_table(self, g: Geometry) -> bool
-        requires { ⌜ ValidGeometry g ⌝ }
+    // Is it at one of the two table addresses, 1 to T bytes long? For any geometry; `valid_indirection_table_location` asks first.
+    pub fn valid_table(self, g: Geometry) -> bool
         ensures { λ r. ⌜ r ≡ validIndirectionTableLocation g self ⌝ }
     {
         let at = self.at_table(g);
@@ -178,7 +172,7 @@ impl Location {
         Decision::Is(b)
     }
 
-    // Is it at one of the two table addresses, 1 to T bytes long?
+    // The same after question 1.
     pub fn valid_indirection_table_location(self, g: Geometry) -> Decision
         ensures { λ r. ⌜ r ≡ decided (askGeometry g) (validIndirectionTableLocation g self) ⌝ }
     {
@@ -186,7 +180,7 @@ impl Location {
         if q != 0 {
             return Decision::Refused(q);
         }
-        let b = self.in_table(g);
+        let b = self.valid_table(g);
         Decision::Is(b)
     }
 
@@ -213,7 +207,7 @@ impl Location {
         let first = self.valid_superblock1_location();
         let second = self.valid_superblock2_location();
         let journal = self.in_journal(g);
-        let table = self.in_table(g);
+        let table = self.valid_table(g);
         let b = first | (second | (journal | table));
         Decision::Is(b)
     }

@@ -1,5 +1,5 @@
-// The operations between machine and disk, as source 001 has them. The bytes of a journal read or write do not travel by value: they lie in
-// lent memory, and the operation says which.
+// The operations between machine and disk, as source 001 has them. What travels is numbers and superblocks. The bytes of journal blocks do
+// not travel: they lie in lent memory beside the operation.
 use super::superblock::Superblock;
 use interval::JournalInterval;
 
@@ -9,10 +9,22 @@ pub enum MaybeId {
     NoId,
 }
 
-// A superblock, or none.
+// What a slot of the disk holds: a superblock, or nothing.
 pub enum MaybeSuperblock {
     Holds(Superblock),
     Empty,
+}
+
+// What a read of a slot came back with: whole, with the superblock that the slot holds; or damaged, whatever it holds.
+pub enum SuperblockRead {
+    Whole(Superblock),
+    Damaged,
+}
+
+// What a read of journal blocks came back with: whole, and the blocks of its interval lie in lent memory; or damaged, and none do.
+pub enum JournalRead {
+    Whole,
+    Damaged,
 }
 
 pub enum DiskOp {
@@ -29,22 +41,21 @@ pub enum DiskOp {
         which: u64,
         superblock: Superblock,
     },
-    // The range of the first `entries` pending entries, from block `start` on.
+    // A range of `blocks` blocks, to be written from block `start` on, going round. Its bytes lie in lent memory.
     ReqWriteJournal {
         id1: u64,
         id2: MaybeId,
         start: u64,
-        entries: u64,
+        blocks: u64,
     },
     RespReadSuperblock {
         id: u64,
         which: u64,
-        superblock: MaybeSuperblock,
+        superblock: SuperblockRead,
     },
-    // Whole: the blocks of the read's interval. Else the answer is damaged.
     RespReadJournal {
         id: u64,
-        whole: bool,
+        journal: JournalRead,
     },
     RespWriteSuperblock {
         id: u64,

@@ -1,5 +1,6 @@
 // A superblock: what a commit writes, and what loading reads. Any numbers make one; the loader asks whether it is well formed.
 use interval::JournalInterval;
+use interval::MaybeInterval;
 use interval::MaybeSpanned;
 use layout::Decision;
 use layout::Geometry;
@@ -7,7 +8,7 @@ use layout::Location;
 ghost use mathlib.Core.Path.{_≡_};
 ghost use Rattle.layout.specs.Answer.{decided};
 ghost use Rattle.layout.specs.Geometry.{askGeometry};
-ghost use Rattle.interval.specs.Answer.{maybeSpanned};
+ghost use Rattle.interval.specs.Answer.{maybeInterval, maybeSpanned};
 ghost use Rattle.interval.specs.Interval.{askInterval, interval};
 ghost use Rattle.superblock.specs.Superblock.{IncrementSuperblockCounter, increments1, SelectSuperblockIndex, SelectSuperblock, JournalFrontIntervalOfSuperblock, JournalBackIntervalOfSuperblock, wfSuperblock};
 
@@ -56,6 +57,27 @@ pub fn select_superblock(superblock1: Superblock, superblock2: Superblock) -> Su
 
 impl Superblock {
     // The two pieces in which loading reads the journal.
+    pub fn front(self, g: Geometry) -> MaybeInterval
+        ensures { λ r. ⌜ r ≡ maybeInterval (JournalFrontIntervalOfSuperblock g self) ⌝ }
+    {
+        let v = JournalInterval {
+            start: self.journalStart,
+            len: self.journalLen,
+        };
+        v.front(g)
+    }
+
+    pub fn back(self, g: Geometry) -> MaybeInterval
+        ensures { λ r. ⌜ r ≡ maybeInterval (JournalBackIntervalOfSuperblock g self) ⌝ }
+    {
+        let v = JournalInterval {
+            start: self.journalStart,
+            len: self.journalLen,
+        };
+        v.back(g)
+    }
+
+    // The same, after questions 1 and 4.
     pub fn journal_front_interval(self, g: Geometry) -> MaybeSpanned
         ensures { λ r. ⌜ r ≡ maybeSpanned (askInterval g (interval (self .journalStart) (self .journalLen))) (JournalFrontIntervalOfSuperblock g self) ⌝ }
     {
@@ -77,20 +99,28 @@ impl Superblock {
     }
 
     // A start below N, a len of at most N and a valid table location?
+    pub fn well_formed(self, g: Geometry) -> bool
+        ensures { λ r. ⌜ r ≡ wfSuperblock g self ⌝ }
+    {
+        if self.journalStart < g.blocks {
+            if self.journalLen <= g.blocks {
+                let loc = self.indirectionTableLoc;
+                return loc.valid_table(g);
+            }
+            return false;
+        }
+        false
+    }
+
+    // `well_formed`, after question 1.
     pub fn wf_superblock(self, g: Geometry) -> Decision
         ensures { λ r. ⌜ r ≡ decided (askGeometry g) (wfSuperblock g self) ⌝ }
     {
-        let loc = self.indirectionTableLoc;
-        let table = loc.valid_indirection_table_location(g);
-        let Decision::Is(valid) = table else {
-            return table;
-        };
-        if self.journalStart < g.blocks {
-            if self.journalLen <= g.blocks {
-                return Decision::Is(valid);
-            }
-            return Decision::Is(false);
+        let q = g.ask();
+        if q != 0 {
+            return Decision::Refused(q);
         }
-        Decision::Is(false)
+        let b = self.well_formed(g);
+        Decision::Is(b)
     }
 }

@@ -1,7 +1,4 @@
 use borrow.Author.Needs.{needs}
-use mathlib.Core.Path.{sym, _∙_}
-use native.Mathlib.Omega.{arith}
-use Rattle.interval.specs.Facts.{contiguous-asked}
 use Rattle.laws.specs.Choice.{tests}
 use Rattle.interval.proofs.interval.JournalInterval.journal_interval_overlap.Statement.{statement}
 use Rattle.interval.proofs.interval.JournalInterval.journal_interval_overlap.Tie as tie
@@ -13,7 +10,7 @@ returns : tie.Need-returns
 returns c = search (tests, ← c .before .ask-contiguous .ensures)
 
 meets-requires : tie.Need-meets-requires
-meets-requires c κs = let v = contiguous-asked _ _ _ (sym (c .before .ask-contiguous .ensures) ∙ c .if1 .left) in (omega arith, omega arith)
+meets-requires c κs = search needs
 
 returns-2 : tie.Need-returns-2
 returns-2 c = search (tests, ← c .meets .ensures, ← c .before .before .ask-contiguous .ensures)

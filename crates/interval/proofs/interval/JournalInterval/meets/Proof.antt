@@ -4,15 +4,15 @@ use Rattle.laws.specs.Choice.{tests, also}
 use Rattle.interval.proofs.interval.JournalInterval.meets.Statement.{statement}
 use Rattle.interval.proofs.interval.JournalInterval.meets.Tie as tie
 
-add-a : tie.Need-add-a
-add-a c = search needs
+ends-after-requires : tie.Need-ends-after-requires
+ends-after-requires c κs = search needs
 
-add-b : tie.Need-add-b
-add-b c = search needs
+ends-after-requires-2 : tie.Need-ends-after-requires-2
+ends-after-requires-2 c κs = search needs
 
 returns : tie.Need-returns
 unfolding journalIntervalOverlap also
-returns c = search tests
+returns c = search (tests, ← c .ends-after2 .ensures, ← c .before .ends-after .ensures)
 
 pub meets-spec : {M : Type 1} → statement M
-meets-spec = tie.close (tie.spec add-a add-b returns)
+meets-spec = tie.close (tie.spec ends-after-requires ends-after-requires-2 returns)

@@ -4,14 +4,11 @@ use Rattle.laws.specs.Choice.{tests, either}
 use Rattle.interval.proofs.interval.JournalInterval.parts_meet.Statement.{statement}
 use Rattle.interval.proofs.interval.JournalInterval.parts_meet.Tie as tie
 
-sub-t8 : tie.Need-sub-t8
-sub-t8 c = search needs
+to-end-requires : tie.Need-to-end-requires
+to-end-requires c κs = search needs
 
-sub-t8-2 : tie.Need-sub-t8-2
-sub-t8-2 c = search needs
-
-sub-t9 : tie.Need-sub-t9
-sub-t9 c = search needs
+less-requires : tie.Need-less-requires
+less-requires c κs = search needs
 
 meets-requires : tie.Need-meets-requires
 meets-requires c κs = search needs
@@ -21,8 +18,8 @@ meets-requires-2 c κs = search needs
 
 returns : tie.Need-returns
 unfolding overlapParts either
-returns c = search (tests, ← c .meets2 .ensures, ← c .before .meets .ensures)
+returns c = search (tests, ← c .meets2 .ensures, ← c .before .meets .ensures, ← c .before .before .less .ensures, ← c .before .before .before .to-end .ensures)
 
 pub parts-meet-spec : {M : Type 1} → statement M
 parts-meet-spec =
-    tie.close (tie.spec sub-t8 sub-t8-2 sub-t9 meets-requires meets-requires-2 returns)
+    tie.close (tie.spec to-end-requires less-requires meets-requires meets-requires-2 returns)

@@ -27,7 +27,7 @@ returns-2 c =
 
 returns-3 : tie.Need-returns-3
 unfolding otherIndirectionTableAddr
-returns-3 c = search (tests, ← c .before .table2 .ensures, ← c .before .before .table1 .ensures, ← c .before .before .before .before .ask .ensures)
+returns-3 c = search (tests, ← c .before .before .table1 .ensures, ← c .before .before .before .before .ask .ensures)
 
 pub other-indirection-table-addr-spec : {M : Type 1} → statement M
 other-indirection-table-addr-spec =

@@ -1,7 +1,5 @@
 use borrow.Author.Needs.{needs}
-use mathlib.Core.Path.{sym, _∙_}
 use Rattle.laws.specs.Choice.{tests, ask}
-use Rattle.layout.specs.Geometry.{geometry-asked}
 use Rattle.layout.proofs.location.Location.valid_indirection_table_addr.Statement.{statement}
 use Rattle.layout.proofs.location.Location.valid_indirection_table_addr.Tie as tie
 
@@ -12,7 +10,7 @@ returns : tie.Need-returns
 returns c = search (tests, ← c .before .ask .ensures)
 
 at-table-requires : tie.Need-at-table-requires
-at-table-requires c κs = geometry-asked _ (sym (c .before .ask .ensures) ∙ c .if1 .left)
+at-table-requires c κs = search needs
 
 returns-2 : tie.Need-returns-2
 returns-2 c = search (tests, ← c .at-table .ensures, ← c .before .before .ask .ensures)

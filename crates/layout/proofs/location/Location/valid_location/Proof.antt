@@ -22,12 +22,12 @@ valid-superblock2-location-requires c κs = search needs
 in-journal-requires : tie.Need-in-journal-requires
 in-journal-requires c κs = geometry-asked _ (sym (c .before .before .before .ask .ensures) ∙ c .before .before .if1 .left)
 
-in-table-requires : tie.Need-in-table-requires
-in-table-requires c κs = geometry-asked _ (sym (c .before .before .before .before .ask .ensures) ∙ c .before .before .before .if1 .left)
+valid-table-requires : tie.Need-valid-table-requires
+valid-table-requires c κs = search needs
 
 returns-2 : tie.Need-returns-2
 unfolding validLocation either
-returns-2 c = search (tests, ← c .in-table .ensures, ← c .before .in-journal .ensures, ← c .before .before .valid-superblock2-location .ensures, ← c .before .before .before .valid-superblock1-location .ensures, ← c .before .before .before .before .before .ask .ensures)
+returns-2 c = search (tests, ← c .valid-table .ensures, ← c .before .in-journal .ensures, ← c .before .before .valid-superblock2-location .ensures, ← c .before .before .before .valid-superblock1-location .ensures, ← c .before .before .before .before .before .ask .ensures)
 
 pub valid-location-spec : {M : Type 1} → statement M
 valid-location-spec =
@@ -38,5 +38,5 @@ valid-location-spec =
     valid-superblock1-location-requires
     valid-superblock2-location-requires
     in-journal-requires
-    in-table-requires
+    valid-table-requires
     returns-2)

@@ -1,8 +1,8 @@
 use borrow.Author.Needs.{needs}
 use Rattle.laws.specs.Choice.{tests, also}
 use Rattle.layout.specs.Location.{validIndirectionTableLocation}
-use Rattle.layout.proofs.location.Location.in_table.Statement.{statement}
-use Rattle.layout.proofs.location.Location.in_table.Tie as tie
+use Rattle.layout.proofs.location.Location.valid_table.Statement.{statement}
+use Rattle.layout.proofs.location.Location.valid_table.Tie as tie
 
 at-table-requires : tie.Need-at-table-requires
 at-table-requires c κs = search needs
@@ -19,5 +19,5 @@ returns-3 : tie.Need-returns-3
 unfolding validIndirectionTableLocation also
 returns-3 c = search (tests, c .if1 .left, ← c .before .at-table .ensures)
 
-pub in-table-spec : {M : Type 1} → statement M
-in-table-spec = tie.close (tie.spec at-table-requires returns returns-2 returns-3)
+pub valid-table-spec : {M : Type 1} → statement M
+valid-table-spec = tie.close (tie.spec at-table-requires returns returns-2 returns-3)
