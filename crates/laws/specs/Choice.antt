@@ -133,6 +133,11 @@ pub andThen-both : (q r : ℕ) → q ≡ 0 → r ≡ 0 → andThen q r ≡ 0
 unfolding andThen
 andThen-both q r hq hr = simp (eq-eqb q 0 hq) hr
 
+-- after a yes the next answer counts
+pub andThen-next : (q r : ℕ) → q ≡ 0 → andThen q r ≡ r
+unfolding andThen
+andThen-next q r h = simp (eq-eqb q 0 h)
+
 -- the first no is the answer
 pub andThen-first : (q r : ℕ) → (q ≡ 0 → ⊥) → andThen q r ≡ q
 unfolding andThen
@@ -197,6 +202,10 @@ unless-kept q old new h = asked-no q new old h
 pub unless-done {ℓ} : {A : Type ℓ} (q : ℕ) (old new : A) → q ≡ 0 → unless q old new ≡ new
 unfolding unless
 unless-done q old new h = asked-yes q new old h
+
+pub unless-same {ℓ} : {A : Type ℓ} (q : ℕ) (x : A) → x ≡ unless q x x
+unfolding unless
+unless-same {A = A} q x = by-eqb (λ (y : A). x ≡ y) q 0 x x (λ h. refl) (λ h. refl)
 
 -- the same for a step that has the refusal in a number of its own
 pub refused-kept {ℓ} : {A : Type ℓ} (r q : ℕ) (old new : A) → r ≡ q → (r ≡ 0 → ⊥) → old ≡ unless q old new

@@ -1,0 +1,21 @@
+mod acknowledge;
+mod disk;
+mod landing;
+mod memory;
+mod operation;
+mod questions;
+mod receive;
+mod slots;
+mod whole;
+
+pub use disk::Disk;
+pub use disk::DiskAnswer;
+pub use disk::DiskStepped;
+pub use disk::JournalAcked;
+pub use disk::JournalAnswer;
+pub use disk::SuperblockAcked;
+pub use disk::SuperblockAnswer;
+pub use slots::Slots;
+pub use slots::SuperblockReads;
+pub use slots::SuperblockWrite;
+pub use slots::SuperblockWrites;
