@@ -6,4 +6,5 @@ pub mod Acknowledge
 pub mod Landing
 pub mod Memory
 pub mod Operation
+pub mod Whole
 pub mod Laws

@@ -11,20 +11,15 @@ use Rattle.interval.specs.Interval.{interval}
 use Rattle.superblock.specs.declared.disk_op.MaybeId.{MaybeId}
 use Rattle.journal.specs.Memory.{askSize, copyBlocks}
 use Rattle.tables.specs.declared.interval_table.IntervalTable.{IntervalTable}
-use Rattle.disk.specs.declared.disk.Disk.{Disk}
-use Rattle.disk.specs.Questions.{askDisk}
 use Rattle.disk.specs.Receive.{askRecvWriteJournal}
 
 -- the blocks that `new` takes from `start` on: a part of a block at its end is a 4
 abbrev pub newInterval : ℕ → List ℕ → JournalInterval
 newInterval start new = interval start (length new / 4096)
 
--- questions 4 to 9, and all of them
+-- questions 4 to 9
 unfoldable pub askNewBlocks : Geometry → IntervalTable → ℕ → MaybeId → JournalInterval → List ℕ → ℕ
 askNewBlocks g t id1 id2 v new = andThen (askSize v new) (askRecvWriteJournal g t id1 id2 v)
-
-unfoldable pub askWriteBlocks : Geometry → Disk → ℕ → MaybeId → JournalInterval → List ℕ → List ℕ → List ℕ → ℕ
-askWriteBlocks g d id1 id2 v new blocks marks = andThen (askDisk g d blocks marks) (askNewBlocks g (d .journalWrites) id1 id2 v new)
 
 -- the buffer: the interval's blocks at its front where the answer is whole
 unfoldable pub readOut : Bool → JournalInterval → List ℕ → List ℕ → List ℕ

@@ -2,7 +2,6 @@
 use Prim.Native.Nat.{ℕ}
 use mathlib.Core.Bool.{Bool, true, false}
 use mathlib.Core.List.{List}
-use Rattle.laws.specs.Choice.{andThen}
 use Rattle.layout.specs.declared.geometry.Geometry.{Geometry}
 use Rattle.interval.specs.Interval.{interval}
 use Rattle.superblock.specs.declared.disk_op.DiskOp.{DiskOp}
@@ -17,7 +16,6 @@ use Rattle.disk.specs.declared.disk.DiskAnswer.the-variants as answer
 use Rattle.disk.specs.declared.disk.JournalAcked.{JournalAcked}
 use Rattle.disk.specs.declared.disk.JournalAnswer.{JournalAnswer}
 use Rattle.disk.specs.declared.disk.JournalAnswer.the-variants as journalAnswer
-use Rattle.disk.specs.Questions.{askDiskOut}
 use Rattle.disk.specs.Receive.{askRecvReadSuperblock, askRecvReadJournal, askRecvWriteSuperblock, recvReadSuperblockNext, recvReadJournalNext, recvWriteSuperblockNext, recvWriteJournalNext}
 use Rattle.disk.specs.Acknowledge.{askReadSuperblockAs, heldInterval, askAckReadJournal, askAckWriteSuperblock, askAckWriteJournal, ackReadSuperblockNext, ackReadJournalNext, ackWriteSuperblockNext, ackWriteJournalNext}
 use Rattle.disk.specs.Memory.{askNewBlocks, readOut}
@@ -89,6 +87,3 @@ operationOut d (op.RespReadSuperblock id which superblock) blocks out = out
 operationOut d (op.RespWriteSuperblock id which) blocks out = out
 operationOut d (op.RespWriteJournal id) blocks out = out
 operationOut d op.NoDiskOp blocks out = out
-
-unfoldable pub askStep : Geometry → Disk → DiskOp → List ℕ → List ℕ → List ℕ → List ℕ → ℕ
-askStep g d op new blocks marks out = andThen (askDiskOut g d blocks marks out) (askOperation g d op new marks)

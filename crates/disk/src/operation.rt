@@ -11,7 +11,8 @@ use superblock::JournalRead;
 ghost use mathlib.Core.Path.{_≡_};
 ghost use Rattle.laws.specs.Choice.{unless};
 ghost use Rattle.disk.specs.Disk.{answered};
-ghost use Rattle.disk.specs.Operation.{isWhole, asStepped, askOperation, operationNext, operationBlocks, operationMarks, operationOut, askStep};
+ghost use Rattle.disk.specs.Operation.{isWhole, asStepped, askOperation, operationNext, operationBlocks, operationMarks, operationOut};
+ghost use Rattle.disk.specs.Whole.{step, stepBlocks, stepMarks, stepOut};
 
 fn is_whole(read: JournalRead) -> bool
     ensures { λ r. ⌜ r ≡ isWhole read ⌝ }
@@ -108,10 +109,10 @@ impl Disk {
         marks: &mut [u8],
         out: &mut [u8],
     ) -> DiskStepped
-        ensures { λ r. ⌜ r ≡ answered (askStep g self op (now (new .entry)) (now (blocks .entry)) (now (marks .entry)) (now (out .entry))) (operationNext g self op) self ⌝ }
-        ensures { λ _. ⌜ now (blocks .exit) ≡ unless (askStep g self op (now (new .entry)) (now (blocks .entry)) (now (marks .entry)) (now (out .entry))) (now (blocks .entry)) (operationBlocks op (now (new .entry)) (now (blocks .entry))) ⌝ }
-        ensures { λ _. ⌜ now (marks .exit) ≡ unless (askStep g self op (now (new .entry)) (now (blocks .entry)) (now (marks .entry)) (now (out .entry))) (now (marks .entry)) (operationMarks op (now (marks .entry))) ⌝ }
-        ensures { λ _. ⌜ now (out .exit) ≡ unless (askStep g self op (now (new .entry)) (now (blocks .entry)) (now (marks .entry)) (now (out .entry))) (now (out .entry)) (operationOut self op (now (blocks .entry)) (now (out .entry))) ⌝ }
+        ensures { λ r. ⌜ r ≡ step g self op (now (new .entry)) (now (blocks .entry)) (now (marks .entry)) (now (out .entry)) ⌝ }
+        ensures { λ _. ⌜ now (blocks .exit) ≡ stepBlocks g self op (now (new .entry)) (now (blocks .entry)) (now (marks .entry)) (now (out .entry)) ⌝ }
+        ensures { λ _. ⌜ now (marks .exit) ≡ stepMarks g self op (now (new .entry)) (now (blocks .entry)) (now (marks .entry)) (now (out .entry)) ⌝ }
+        ensures { λ _. ⌜ now (out .exit) ≡ stepOut g self op (now (new .entry)) (now (blocks .entry)) (now (marks .entry)) (now (out .entry)) ⌝ }
     {
         let q = self.ask_with_buffer(g, blocks, marks, out);
         if q != 0 {

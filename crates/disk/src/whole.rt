@@ -12,15 +12,7 @@ use layout::Geometry;
 use superblock::MaybeId;
 use superblock::Superblock;
 ghost use mathlib.Core.Path.{_≡_};
-ghost use Rattle.laws.specs.Choice.{andThen, unless};
-ghost use Rattle.journal.specs.Memory.{updateBytes, updateMarks};
-ghost use Rattle.disk.specs.Slots.{slotAt};
-ghost use Rattle.disk.specs.Disk.{answered};
-ghost use Rattle.disk.specs.Questions.{askDisk, askDiskOut};
-ghost use Rattle.disk.specs.Receive.{askRecvReadSuperblock, askRecvReadJournal, askRecvWriteSuperblock, recvReadSuperblockNext, recvReadJournalNext, recvWriteSuperblockNext, recvWriteJournalNext};
-ghost use Rattle.disk.specs.Acknowledge.{readFrom, askAckReadSuperblock, superblockAnswered, heldInterval, askAckReadJournal, journalAnswered, askAckWriteSuperblock, askAckWriteJournal, ackReadSuperblockNext, ackReadJournalNext, ackWriteSuperblockNext, ackWriteJournalNext};
-ghost use Rattle.disk.specs.Landing.{askLand, landNext};
-ghost use Rattle.disk.specs.Memory.{newInterval, askWriteBlocks, readOut};
+ghost use Rattle.disk.specs.Whole.{recvReadSuperblock, recvReadJournal, recvWriteSuperblock, recvWriteJournal, recvWriteJournalBlocks, recvWriteJournalMarks, ackReadSuperblock, ackReadJournal, ackReadJournalOut, ackWriteSuperblock, ackWriteJournal, land};
 
 impl Disk {
     // A read of a superblock is received.
@@ -32,7 +24,7 @@ impl Disk {
         blocks: &[u8],
         marks: &[u8],
     ) -> DiskStepped
-        ensures { λ r. ⌜ r ≡ answered (andThen (askDisk g self (now (blocks .entry)) (now (marks .entry))) (askRecvReadSuperblock (self .superblockReads) which id)) (recvReadSuperblockNext self which id) self ⌝ }
+        ensures { λ r. ⌜ r ≡ recvReadSuperblock g self which id (now (blocks .entry)) (now (marks .entry)) ⌝ }
     {
         let q = self.ask(g, blocks, marks);
         if q != 0 {
@@ -53,7 +45,7 @@ impl Disk {
         blocks: &[u8],
         marks: &[u8],
     ) -> DiskStepped
-        ensures { λ r. ⌜ r ≡ answered (andThen (askDisk g self (now (blocks .entry)) (now (marks .entry))) (askRecvReadJournal g (self .journalReads) id v)) (recvReadJournalNext self id v) self ⌝ }
+        ensures { λ r. ⌜ r ≡ recvReadJournal g self id v (now (blocks .entry)) (now (marks .entry)) ⌝ }
     {
         let q = self.ask(g, blocks, marks);
         if q != 0 {
@@ -75,7 +67,7 @@ impl Disk {
         blocks: &[u8],
         marks: &[u8],
     ) -> DiskStepped
-        ensures { λ r. ⌜ r ≡ answered (andThen (askDisk g self (now (blocks .entry)) (now (marks .entry))) (askRecvWriteSuperblock (self .superblockWrites) which id)) (recvWriteSuperblockNext self which id superblock) self ⌝ }
+        ensures { λ r. ⌜ r ≡ recvWriteSuperblock g self which id superblock (now (blocks .entry)) (now (marks .entry)) ⌝ }
     {
         let q = self.ask(g, blocks, marks);
         if q != 0 {
@@ -98,9 +90,9 @@ impl Disk {
         blocks: &mut [u8],
         marks: &mut [u8],
     ) -> DiskStepped
-        ensures { λ r. ⌜ r ≡ answered (askWriteBlocks g self id1 id2 (newInterval start (now (new .entry))) (now (new .entry)) (now (blocks .entry)) (now (marks .entry))) (recvWriteJournalNext g self id1 id2 (newInterval start (now (new .entry)))) self ⌝ }
-        ensures { λ _. ⌜ now (blocks .exit) ≡ unless (askWriteBlocks g self id1 id2 (newInterval start (now (new .entry))) (now (new .entry)) (now (blocks .entry)) (now (marks .entry))) (now (blocks .entry)) (updateBytes (now (blocks .entry)) (newInterval start (now (new .entry))) (now (new .entry))) ⌝ }
-        ensures { λ _. ⌜ now (marks .exit) ≡ unless (askWriteBlocks g self id1 id2 (newInterval start (now (new .entry))) (now (new .entry)) (now (blocks .entry)) (now (marks .entry))) (now (marks .entry)) (updateMarks (now (marks .entry)) (newInterval start (now (new .entry)))) ⌝ }
+        ensures { λ r. ⌜ r ≡ recvWriteJournal g self id1 id2 start (now (new .entry)) (now (blocks .entry)) (now (marks .entry)) ⌝ }
+        ensures { λ _. ⌜ now (blocks .exit) ≡ recvWriteJournalBlocks g self id1 id2 start (now (new .entry)) (now (blocks .entry)) (now (marks .entry)) ⌝ }
+        ensures { λ _. ⌜ now (marks .exit) ≡ recvWriteJournalMarks g self id1 id2 start (now (new .entry)) (now (blocks .entry)) (now (marks .entry)) ⌝ }
     {
         let q = self.ask(g, blocks, marks);
         if q != 0 {
@@ -126,7 +118,7 @@ impl Disk {
         blocks: &[u8],
         marks: &[u8],
     ) -> SuperblockAcked
-        ensures { λ r. ⌜ r ≡ superblockAnswered (andThen (askDisk g self (now (blocks .entry)) (now (marks .entry))) (askAckReadSuperblock (self .slots) (self .superblockReads) which id whole)) (readFrom whole (slotAt (self .slots) which)) (ackReadSuperblockNext self which id) self ⌝ }
+        ensures { λ r. ⌜ r ≡ ackReadSuperblock g self which id whole (now (blocks .entry)) (now (marks .entry)) ⌝ }
     {
         let q = self.ask(g, blocks, marks);
         if q != 0 {
@@ -148,8 +140,8 @@ impl Disk {
         marks: &[u8],
         out: &mut [u8],
     ) -> JournalAcked
-        ensures { λ r. ⌜ r ≡ journalAnswered (andThen (askDiskOut g self (now (blocks .entry)) (now (marks .entry)) (now (out .entry))) (askAckReadJournal (self .journalReads) id whole (now (marks .entry)))) (heldInterval (self .journalReads) id) (ackReadJournalNext self id) self ⌝ }
-        ensures { λ _. ⌜ now (out .exit) ≡ unless (andThen (askDiskOut g self (now (blocks .entry)) (now (marks .entry)) (now (out .entry))) (askAckReadJournal (self .journalReads) id whole (now (marks .entry)))) (now (out .entry)) (readOut whole (heldInterval (self .journalReads) id) (now (blocks .entry)) (now (out .entry))) ⌝ }
+        ensures { λ r. ⌜ r ≡ ackReadJournal g self id whole (now (blocks .entry)) (now (marks .entry)) (now (out .entry)) ⌝ }
+        ensures { λ _. ⌜ now (out .exit) ≡ ackReadJournalOut g self id whole (now (blocks .entry)) (now (marks .entry)) (now (out .entry)) ⌝ }
     {
         let q = self.ask_with_buffer(g, blocks, marks, out);
         if q != 0 {
@@ -170,7 +162,7 @@ impl Disk {
         blocks: &[u8],
         marks: &[u8],
     ) -> DiskStepped
-        ensures { λ r. ⌜ r ≡ answered (andThen (askDisk g self (now (blocks .entry)) (now (marks .entry))) (askAckWriteSuperblock (self .slots) (self .superblockWrites) which id)) (ackWriteSuperblockNext self which) self ⌝ }
+        ensures { λ r. ⌜ r ≡ ackWriteSuperblock g self which id (now (blocks .entry)) (now (marks .entry)) ⌝ }
     {
         let q = self.ask(g, blocks, marks);
         if q != 0 {
@@ -184,7 +176,7 @@ impl Disk {
 
     // A journal write is answered.
     pub fn ack_write_journal(self, g: Geometry, id: u64, blocks: &[u8], marks: &[u8]) -> DiskStepped
-        ensures { λ r. ⌜ r ≡ answered (andThen (askDisk g self (now (blocks .entry)) (now (marks .entry))) (askAckWriteJournal (self .journalWrites) id)) (ackWriteJournalNext self id) self ⌝ }
+        ensures { λ r. ⌜ r ≡ ackWriteJournal g self id (now (blocks .entry)) (now (marks .entry)) ⌝ }
     {
         let q = self.ask(g, blocks, marks);
         if q != 0 {
@@ -198,7 +190,7 @@ impl Disk {
 
     // A superblock write in flight lands.
     pub fn land(self, g: Geometry, which: u64, blocks: &[u8], marks: &[u8]) -> DiskStepped
-        ensures { λ r. ⌜ r ≡ answered (andThen (askDisk g self (now (blocks .entry)) (now (marks .entry))) (askLand (self .superblockWrites) which)) (landNext self which) self ⌝ }
+        ensures { λ r. ⌜ r ≡ land g self which (now (blocks .entry)) (now (marks .entry)) ⌝ }
     {
         let q = self.ask(g, blocks, marks);
         if q != 0 {

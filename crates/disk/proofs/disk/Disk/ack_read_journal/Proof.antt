@@ -1,4 +1,4 @@
-use Rattle.disk.specs.Laws.{journal-first, journal-next, kept-first, kept-next}
+use Rattle.disk.specs.Laws.Answers.{journal-first, journal-next, kept-first, kept-next}
 use borrow.Author.Needs.{needs}
 use Rattle.disk.proofs.disk.Disk.ack_read_journal.Statement.{statement}
 use Rattle.disk.proofs.disk.Disk.ack_read_journal.Tie as tie

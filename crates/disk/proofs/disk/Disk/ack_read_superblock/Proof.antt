@@ -1,4 +1,4 @@
-use Rattle.disk.specs.Laws.{superblock-first, superblock-next}
+use Rattle.disk.specs.Laws.Answers.{superblock-first, superblock-next}
 use borrow.Author.Needs.{needs}
 use Rattle.disk.proofs.disk.Disk.ack_read_superblock.Statement.{statement}
 use Rattle.disk.proofs.disk.Disk.ack_read_superblock.Tie as tie

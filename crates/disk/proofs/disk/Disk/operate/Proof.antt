@@ -2,7 +2,7 @@ use mathlib.Core.Path.{refl}
 use Rattle.laws.specs.Choice.{unless-same}
 use Rattle.disk.specs.Disk.{answered}
 use Rattle.disk.specs.Operation.{askOperation, operationNext, operationBlocks, operationMarks, operationOut}
-use Rattle.disk.specs.Laws.{read-answered, read-copied}
+use Rattle.disk.specs.Laws.Answers.{read-answered, read-copied}
 use borrow.Author.Needs.{needs}
 use Rattle.disk.proofs.disk.Disk.operate.Statement.{statement}
 use Rattle.disk.proofs.disk.Disk.operate.Tie as tie

@@ -1,6 +1,6 @@
 use mathlib.Core.Path.{sym}
 use Rattle.laws.specs.Choice.{unless-kept}
-use Rattle.disk.specs.Laws.{journal-refused, copied}
+use Rattle.disk.specs.Laws.Answers.{journal-refused, copied}
 use borrow.Author.Needs.{needs}
 use Rattle.disk.proofs.disk.Disk.read_blocks.Statement.{statement}
 use Rattle.disk.proofs.disk.Disk.read_blocks.Tie as tie

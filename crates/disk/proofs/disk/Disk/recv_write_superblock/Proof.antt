@@ -1,4 +1,4 @@
-use Rattle.disk.specs.Laws.{refused-first, answered-next}
+use Rattle.disk.specs.Laws.Answers.{refused-first, answered-next}
 use borrow.Author.Needs.{needs}
 use Rattle.disk.proofs.disk.Disk.recv_write_superblock.Statement.{statement}
 use Rattle.disk.proofs.disk.Disk.recv_write_superblock.Tie as tie

@@ -1,5 +1,4 @@
-use Rattle.disk.specs.Laws.{refused-first, answered-next, kept-first, kept-next}
-use Rattle.disk.specs.Operation.{askStep}
+use Rattle.disk.specs.Laws.Answers.{refused-first, answered-next, kept-first, kept-next}
 use borrow.Author.Needs.{needs}
 use Rattle.disk.proofs.disk.Disk.step.Statement.{statement}
 use Rattle.disk.proofs.disk.Disk.step.Tie as tie
@@ -17,7 +16,6 @@ same-length-3 : tie.Need-same-length-3
 same-length-3 c = search needs
 
 returns : tie.Need-returns
-unfolding askStep
 returns c = let a = c .before .ask-with-buffer .ensures in let h = c .if1 .taken in (refused-first _ _ _ a _ _ h, (kept-first _ _ _ a _ _ h, (kept-first _ _ _ a _ _ h, kept-first _ _ _ a _ _ h)))
 
 operate-requires : tie.Need-operate-requires
@@ -33,7 +31,6 @@ same-length-6 : tie.Need-same-length-6
 same-length-6 c = search needs
 
 returns-2 : tie.Need-returns-2
-unfolding askStep
 returns-2 c = let a = c .before .before .before .before .before .before .before .before .before .before .before .ask-with-buffer .ensures in let h = c .before .before .before .before .before .before .before .before .before .before .if1 .left in let r = c .before .before .before .before .before .before .operate .ensures in (answered-next _ _ _ a _ _ _ h (r .0), (kept-next _ _ _ a _ _ _ h (r .1 .0), (kept-next _ _ _ a _ _ _ h (r .1 .1 .0), kept-next _ _ _ a _ _ _ h (r .1 .1 .1))))
 
 pub step-spec : {M : Type 1} → statement M
