@@ -1,0 +1,5 @@
+pub mod Which
+pub mod Slots
+pub mod Pieces
+pub mod Other
+pub mod Superblocks
