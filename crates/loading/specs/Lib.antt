@@ -3,3 +3,4 @@ pub mod Slots
 pub mod Pieces
 pub mod Other
 pub mod Superblocks
+pub mod Laws
