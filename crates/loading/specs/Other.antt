@@ -32,23 +32,23 @@ selectedOther superblock1 superblock2 =
     }
 
 -- the two pieces of the superblock's interval, and their blocks
-abbrev pub frontOf : Geometry → LoadingOther → MaybeInterval
-frontOf g s = maybeInterval (JournalFrontIntervalOfSuperblock g (s .superblock))
+abbrev pub frontOf : Geometry → Superblock → MaybeInterval
+frontOf g superblock = maybeInterval (JournalFrontIntervalOfSuperblock g superblock)
 
-abbrev pub backOf : Geometry → LoadingOther → MaybeInterval
-backOf g s = maybeInterval (JournalBackIntervalOfSuperblock g (s .superblock))
+abbrev pub backOf : Geometry → Superblock → MaybeInterval
+backOf g superblock = maybeInterval (JournalBackIntervalOfSuperblock g superblock)
 
-unfoldable pub frontBlocks : Geometry → LoadingOther → ℕ
-frontBlocks g s = blocksOf (frontOf g s)
+unfoldable pub frontBlocks : Geometry → Superblock → ℕ
+frontBlocks g superblock = blocksOf (frontOf g superblock)
 
-unfoldable pub backBlocks : Geometry → LoadingOther → ℕ
-backBlocks g s = blocksOf (backOf g s)
+unfoldable pub backBlocks : Geometry → Superblock → ℕ
+backBlocks g superblock = blocksOf (backOf g superblock)
 
 -- question 2: 000's InvLoadingOther, in which a piece's read and the piece itself are one clause; then that the two reads differ
 unfoldable pub piecesOk : Geometry → LoadingOther → Bool
 piecesOk g s =
-    also (also (pieceInterval (s .front) (frontOf g s))
-    (pieceInterval (s .back) (backOf g s)))
+    also (also (pieceInterval (s .front) (frontOf g (s .superblock)))
+    (pieceInterval (s .back) (backOf g (s .superblock))))
     (pieceReadsDiffer (s .front) (s .back))
 
 unfoldable pub loadingOtherOk : Geometry → LoadingOther → Bool
@@ -94,8 +94,8 @@ place at len = record { place = at; len = len }
 
 unfoldable pub placeOf : Geometry → LoadingOther → ℕ → Paged
 placeOf g s id =
-    cond (pieceReads (s .front) id) (place 0 (frontBlocks g s))
-    (cond (pieceReads (s .back) id) (place (frontBlocks g s) (backBlocks g s))
+    cond (pieceReads (s .front) id) (place 0 (frontBlocks g (s .superblock)))
+    (cond (pieceReads (s .back) id) (place (frontBlocks g (s .superblock)) (backBlocks g (s .superblock)))
     (place 0 0))
 
 unfoldable pub pageInJournalRespNext : LoadingOther → ℕ → JournalRead → LoadingOther
@@ -106,7 +106,7 @@ pageInJournalRespNext s id r =
 
 -- FinishLoadingOtherPhase: 6 unless the pieces that are there are in; the blocks that are loaded
 unfoldable pub askFinishLoadingOtherPhase : Geometry → LoadingOther → ℕ
-askFinishLoadingOtherPhase g s = ask 6 (also (pieceLoaded (s .front) (frontOf g s)) (pieceLoaded (s .back) (backOf g s)))
+askFinishLoadingOtherPhase g s = ask 6 (also (pieceLoaded (s .front) (frontOf g (s .superblock))) (pieceLoaded (s .back) (backOf g (s .superblock))))
 
 abbrev pub loadedBlocks : LoadingOther → ℕ
 loadedBlocks s = s .superblock .journalLen

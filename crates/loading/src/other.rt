@@ -71,7 +71,7 @@ impl LoadingOther {
 
     // The blocks of each piece, 0 where it isn't there.
     fn front_blocks(self, g: Geometry) -> u64
-        ensures { λ r. ⌜ r ≡ frontBlocks g self ⌝ }
+        ensures { λ r. ⌜ r ≡ frontBlocks g (self .superblock) ⌝ }
     {
         let s = self.superblock;
         let v = s.front(g);
@@ -79,7 +79,7 @@ impl LoadingOther {
     }
 
     fn back_blocks(self, g: Geometry) -> u64
-        ensures { λ r. ⌜ r ≡ backBlocks g self ⌝ }
+        ensures { λ r. ⌜ r ≡ backBlocks g (self .superblock) ⌝ }
     {
         let s = self.superblock;
         let v = s.back(g);

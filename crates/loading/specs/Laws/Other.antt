@@ -8,10 +8,13 @@ use mathlib.Core.Logic.{_⊎_, inl, inr}
 use native.Mathlib.Omega.{arith}
 use borrow.Author.Tests.{leb-true, le-leb, eq-eqb, eqb-true}
 use Rattle.laws.specs.Choice.{also, ruin, false-true, not-so, split-bool, also-left, also-right, also-both, ask-yes, ask-holds, andThen-left, andThen-right, andThen-both}
+use Rattle.laws.specs.Sets.{none-some}
 use Rattle.layout.specs.declared.geometry.Geometry.{Geometry}
 use Rattle.interval.specs.declared.interval.JournalInterval.{JournalInterval}
 use Rattle.interval.specs.Answer.{maybeInterval}
-use Rattle.interval.specs.Laws.{lenOf, parts-fit}
+use Rattle.interval.specs.Interval.{interval}
+use Rattle.interval.specs.Laws.{lenOf, parts-none, parts-straight, parts-wrapped, parts-cases, parts-fit}
+use Rattle.superblock.specs.declared.superblock.Superblock.{Superblock}
 use Rattle.superblock.specs.declared.disk_op.JournalRead.{JournalRead}
 use Rattle.superblock.specs.Superblock.{JournalFrontIntervalOfSuperblock, JournalBackIntervalOfSuperblock}
 use Rattle.superblock.specs.Laws.{WFSuperblock, superblock-facts, facts-superblock}
@@ -20,7 +23,7 @@ use Rattle.loading.specs.declared.pieces.Piece.the-variants as piece
 use Rattle.loading.specs.declared.other.LoadingOther.{LoadingOther}
 use Rattle.loading.specs.declared.other.Paged.{Paged}
 use Rattle.loading.specs.Pieces.{isThere, blocksOf, pieceInterval, pieceReads, pieceUnread, pieceLoaded, pieceReadsDiffer, pieceRead}
-use Rattle.loading.specs.Other.{frontOf, backOf, frontBlocks, backBlocks, piecesOk, loadingOtherOk, intervalAt, pieceAt, toPieces, askPageInJournalReq, intervalOf, pageInJournalReqInterval, place, placeOf, pageInJournalRespNext, askFinishLoadingOtherPhase, loadedBlocks}
+use Rattle.loading.specs.Other.{frontOf, backOf, frontBlocks, backBlocks, piecesOk, loadingOtherOk, intervalAt, pieceAt, toPieces, askPageInJournalReq, intervalOf, pageInJournalReqInterval, place, placeOf, pageInJournalRespNext, askFinishLoadingOtherPhase}
 use Rattle.loading.specs.Laws.Which.{which-asked, asked-which, not-true, true-not}
 
 -- A piece
@@ -122,19 +125,42 @@ module _ (g : Geometry) (s : LoadingOther) where
       (facts-interval (s .back) (JournalBackIntervalOfSuperblock g (s .superblock)) (f .back-there)))
       (apart-differ (s .front) (s .back) (f .reads-differ)))
 
-  -- how many blocks each piece has: those of its interval, together the superblock's journalLen
-  pub front-blocks-is : frontBlocks g s ≡ lenOf (JournalFrontIntervalOfSuperblock g (s .superblock))
+-- How many blocks each piece has: those of its interval, some where it is there, together the superblock's journalLen
+
+module _ (g : Geometry) (superblock : Superblock) where
+  pub front-blocks-is : frontBlocks g superblock ≡ lenOf (JournalFrontIntervalOfSuperblock g superblock)
   unfolding frontBlocks
-  front-blocks-is = len-is (JournalFrontIntervalOfSuperblock g (s .superblock))
+  front-blocks-is = len-is (JournalFrontIntervalOfSuperblock g superblock)
 
-  pub back-blocks-is : backBlocks g s ≡ lenOf (JournalBackIntervalOfSuperblock g (s .superblock))
+  pub back-blocks-is : backBlocks g superblock ≡ lenOf (JournalBackIntervalOfSuperblock g superblock)
   unfolding backBlocks
-  back-blocks-is = len-is (JournalBackIntervalOfSuperblock g (s .superblock))
+  back-blocks-is = len-is (JournalBackIntervalOfSuperblock g superblock)
 
-  pub blocks-add : WFSuperblock g (s .superblock) → frontBlocks g s + backBlocks g s ≡ loadedBlocks s
-  blocks-add w =
-      (λ i. front-blocks-is i + back-blocks-is i)
-      ∙ parts-fit g (record { start = s .superblock .journalStart; len = s .superblock .journalLen }) (record { start-in = w .start-in; len-in = w .len-in }) .lens-add
+  module _ (w : WFSuperblock g superblock) where
+    pub blocks-add : frontBlocks g superblock + backBlocks g superblock ≡ superblock .journalLen
+    blocks-add =
+        (λ i. front-blocks-is i + back-blocks-is i)
+        ∙ parts-fit g (interval (superblock .journalStart) (superblock .journalLen)) (record { start-in = w .start-in; len-in = w .len-in }) .lens-add
+
+    pub front-some : There (JournalFrontIntervalOfSuperblock g superblock) → 0 < frontBlocks g superblock
+    front-some t =
+        parts-cases g (superblock .journalStart) (superblock .journalLen)
+        (λ h. none-some (parts-none g (superblock .journalStart) (superblock .journalLen) h .front-is) (t .1))
+        (λ h k.
+        let e = front-blocks-is ∙ ap lenOf (parts-straight g (superblock .journalStart) (superblock .journalLen) h k .front-is) in
+        omega arith)
+        (λ k.
+        let e = front-blocks-is ∙ ap lenOf (parts-wrapped g (superblock .journalStart) (superblock .journalLen) k .front-is) in
+        omega arith)
+
+    pub back-some : There (JournalBackIntervalOfSuperblock g superblock) → 0 < backBlocks g superblock
+    back-some t =
+        parts-cases g (superblock .journalStart) (superblock .journalLen)
+        (λ h. none-some (parts-none g (superblock .journalStart) (superblock .journalLen) h .back-is) (t .1))
+        (λ h k. none-some (parts-straight g (superblock .journalStart) (superblock .journalLen) h k .back-is) (t .1))
+        (λ k.
+        let e = back-blocks-is ∙ ap lenOf (parts-wrapped g (superblock .journalStart) (superblock .journalLen) k .back-is) in
+        omega arith)
 
 -- PageInJournalReq
 
@@ -187,7 +213,7 @@ module _ (s : LoadingOther) (id : ℕ) where
   not-reading p h = not-so (pieceReads p id) (λ e. h (reads-is p id e))
 
   module _ (h : s .front ≡ piece.Reading id) where
-    pub front-place : (g : Geometry) → placeOf g s id ≡ place 0 (frontBlocks g s)
+    pub front-place : (g : Geometry) → placeOf g s id ≡ place 0 (frontBlocks g (s .superblock))
     unfolding placeOf
     front-place g = simp (is-reads (s .front) id h)
 
@@ -196,7 +222,7 @@ module _ (s : LoadingOther) (id : ℕ) where
     front-next r = simp (is-reads (s .front) id h)
 
   module _ (n : s .front ≡ piece.Reading id → ⊥) (h : s .back ≡ piece.Reading id) where
-    pub back-place : (g : Geometry) → placeOf g s id ≡ place (frontBlocks g s) (backBlocks g s)
+    pub back-place : (g : Geometry) → placeOf g s id ≡ place (frontBlocks g (s .superblock)) (backBlocks g (s .superblock))
     unfolding placeOf
     back-place g = simp (not-reading (s .front) n, is-reads (s .back) id h)
 
@@ -223,10 +249,10 @@ module _ (g : Geometry) (s : LoadingOther) where
   pub finish-loading-other-phase-asked : askFinishLoadingOtherPhase g s ≡ 0 → FinishLoadingOtherPhaseAsked g s
   unfolding askFinishLoadingOtherPhase
   finish-loading-other-phase-asked e =
-      let t = ask-yes 6 (also (pieceLoaded (s .front) (frontOf g s)) (pieceLoaded (s .back) (backOf g s))) (omega arith) e in
+      let t = ask-yes 6 (also (pieceLoaded (s .front) (frontOf g (s .superblock))) (pieceLoaded (s .back) (backOf g (s .superblock)))) (omega arith) e in
       record {
-        front-in = loaded-in (s .front) (JournalFrontIntervalOfSuperblock g (s .superblock)) (also-left (pieceLoaded (s .front) (frontOf g s)) (pieceLoaded (s .back) (backOf g s)) t);
-        back-in = loaded-in (s .back) (JournalBackIntervalOfSuperblock g (s .superblock)) (also-right (pieceLoaded (s .front) (frontOf g s)) (pieceLoaded (s .back) (backOf g s)) t);
+        front-in = loaded-in (s .front) (JournalFrontIntervalOfSuperblock g (s .superblock)) (also-left (pieceLoaded (s .front) (frontOf g (s .superblock))) (pieceLoaded (s .back) (backOf g (s .superblock))) t);
+        back-in = loaded-in (s .back) (JournalBackIntervalOfSuperblock g (s .superblock)) (also-right (pieceLoaded (s .front) (frontOf g (s .superblock))) (pieceLoaded (s .back) (backOf g (s .superblock))) t);
       }
 
   pub asked-finish-loading-other-phase : FinishLoadingOtherPhaseAsked g s → askFinishLoadingOtherPhase g s ≡ 0
