@@ -217,6 +217,10 @@ pub unless-done {ℓ} : {A : Type ℓ} (q : ℕ) (old new : A) → q ≡ 0 → u
 unfolding unless
 unless-done q old new h = asked-yes q new old h
 
+pub unless-same {ℓ} : {A : Type ℓ} (q : ℕ) (x : A) → x ≡ unless q x x
+unfolding unless
+unless-same {A = A} q x = by-eqb (λ (y : A). x ≡ y) q 0 x x (λ h. refl) (λ h. refl)
+
 -- the same for a step that has the refusal in a number of its own
 pub refused-kept {ℓ} : {A : Type ℓ} (r q : ℕ) (old new : A) → r ≡ q → (r ≡ 0 → ⊥) → old ≡ unless q old new
 refused-kept r q old new e h = sym (unless-kept q old new (λ z. h (e ∙ z)))
