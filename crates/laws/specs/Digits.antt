@@ -2,7 +2,7 @@
 -- written. Assumes nothing.
 use Prim.Native.Nat.{ℕ, zero, suc, _+_, _*_, _/_, _%_, _^_, _<_}
 use mathlib.Core.Bool.{Bool, true}
-use mathlib.Core.Path.{_≡_, refl, sym, _∙_, ap}
+use mathlib.Core.Path.{_≡_, refl, _∙_, ap}
 use mathlib.Core.List.{List, [], _∷_}
 use native.Mathlib.Nat.{pow-suc, pow-zero, zero-add, zero-mul, add-zero, mod-lt, mod-eq-of-lt, mod-add-div', div-eq-of-lt, div-lt-iff-lt-mul, add-mul-mod-self-right, add-mul-div-right}
 use native.Mathlib.Omega.{arith}
@@ -31,10 +31,6 @@ module _ (base : ℕ) where
   length-digits (suc w) n = ap suc (length-digits w (n / base))
 
   -- one digit, and two
-  pub digits-one : (n : ℕ) → n < base → digits base 1 n ≡ n ∷ []
-  unfolding digits
-  digits-one n h = ap (λ (x : ℕ). x ∷ []) (mod-eq-of-lt h)
-
   pub digits-two : (n : ℕ) → digits base 2 n ≡ n % base ∷ n / base % base ∷ []
   unfolding digits
   digits-two n = refl

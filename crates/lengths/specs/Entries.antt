@@ -6,18 +6,17 @@ use mathlib.Core.Path.{_≡_, sym, _∙_, ap}
 use mathlib.Core.List.{List, _++_}
 use native.Mathlib.Omega.{arith}
 use lib.ListN.{length, take, drop, getD, take-append-drop}
-use lib.Seq.{length-take-le, take-take, drop-drop}
+use lib.Seq.{take-take, drop-drop}
 use lib.Dec.{leb}
 use borrow.Author.Tests.{leb-true, le-leb}
-use Rattle.laws.specs.Choice.{also, also-left, also-right, also-both, not-so}
-use Rattle.laws.specs.Fold.{sum, every, sum-append, sum-split, sum-bound, every-append, every-at}
+use Rattle.laws.specs.Choice.{also, also-left, also-right, also-both}
+use Rattle.laws.specs.Fold.{sum, every, sum-append, sum-bound, every-append, every-at}
 use Rattle.laws.specs.Part.{drop-take, length-part}
 use Rattle.range.specs.Form.{MostEntryLength, okLength}
 use Rattle.range.specs.Bytes.{ok-high}
-use Rattle.range.specs.Memory.{total}
 use Rattle.lengths.specs.declared.held.Held.{Held}
 use Rattle.lengths.specs.declared.held.Held.the-variants as held
-use Rattle.lengths.specs.Held.{heldOk, AreHeld, held-facts, facts-held, answer, heldOf, answer-bytes, answer-nothing}
+use Rattle.lengths.specs.Held.{heldOk, held-facts, facts-held, answer, heldOf, answer-bytes, answer-nothing}
 
 -- the lengths of the entries from one place up to another
 abbrev pub part : ℕ → ℕ → List ℕ → List ℕ

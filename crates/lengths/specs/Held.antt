@@ -48,19 +48,19 @@ module _ (most room : ℕ) (lens : List ℕ) where
   facts-held f = also-both _ _ (f .each) (le-leb (sum lens) room (f .fit))
 
   -- the ways out of a walk
-  pub held-no : (AreHeld most room lens → ⊥) → held.Nothing ≡ heldOf most room lens
+  held-no : (AreHeld most room lens → ⊥) → held.Nothing ≡ heldOf most room lens
   unfolding heldOf
   held-no h = ap (λ (b : Bool). answer b (sum lens)) (sym (not-so (heldOk most room lens) (λ e. h (held-facts e))))
 
-  pub held-yes : (t : ℕ) → AreHeld most room lens → t ≡ sum lens → held.Bytes t ≡ heldOf most room lens
+  held-yes : (t : ℕ) → AreHeld most room lens → t ≡ sum lens → held.Bytes t ≡ heldOf most room lens
   unfolding heldOf
   held-yes t f e = ap held.Bytes e ∙ ap (λ (b : Bool). answer b (sum lens)) (sym (facts-held f))
 
-  pub held-bytes : (t : ℕ) → held.Bytes t ≡ heldOf most room lens → AreHeld most room lens × (t ≡ sum lens)
+  held-bytes : (t : ℕ) → held.Bytes t ≡ heldOf most room lens → AreHeld most room lens × (t ≡ sum lens)
   unfolding heldOf
   held-bytes t e = let a = answer-bytes (heldOk most room lens) (sum lens) t e in (held-facts (a .0), a .1)
 
-  pub held-nothing : held.Nothing ≡ heldOf most room lens → AreHeld most room lens → ⊥
+  held-nothing : held.Nothing ≡ heldOf most room lens → AreHeld most room lens → ⊥
   unfolding heldOf
   held-nothing e f = false-true (sym (answer-nothing (heldOk most room lens) (sum lens) e) ∙ facts-held f)
 

@@ -4,7 +4,7 @@ use mathlib.Core.Bool.{Bool, true, false, cond}
 use mathlib.Core.Path.{_≡_, refl, sym, _∙_, ap}
 use lib.Dec.{eqb}
 use borrow.Author.Tests.{eq-eqb, ne-eqb, eqb-true, eqb-false}
-use Rattle.laws.specs.Choice.{andThen, andThen-first, ruin}
+use Rattle.laws.specs.Choice.{ruin}
 use Rattle.memory.specs.declared.count.Count.{Count}
 use Rattle.memory.specs.declared.count.Counted.{Counted}
 use Rattle.memory.specs.declared.count.Counted.the-variants as answer

@@ -16,13 +16,12 @@ use Rattle.lengths.specs.Entries.{Entries, part, entriesHeld, entriesOk, entrie
 use Rattle.lengths.specs.declared.held.Held.the-variants as held
 use Rattle.memory.specs.declared.limits.Limits.{Limits}
 use Rattle.memory.specs.declared.count.Count.{Count}
-use Rattle.memory.specs.declared.count.Counted.{Counted}
 use Rattle.memory.specs.declared.count.Counted.the-variants as answer
 use Rattle.memory.specs.declared.count.PendingCount.the-variants as pending
 use Rattle.memory.specs.Limits.{askPendingLent, PendingLent, lent-asked, asked-lent, askRoom, room-asked, room-yes}
 use Rattle.memory.specs.Answer.{counted, counted-now, counted-refused, counted-done, counted-no, pendingCounted, pending-now, pending-done, pending-no}
 use Rattle.memory.specs.Given.{Memory, bytesOf, countOf, askGiven, Given, given-asked, asked-given, given-small}
-use Rattle.memory.specs.Pending.{askPending, askFrozen, firstOf, askAppend, both, appended, appendLent, appendAnswer, askTakeFront, frontTaken, others, takeFrontLent, takeFrontAnswer}
+use Rattle.memory.specs.Pending.{askPending, askFrozen, firstOf, askAppend, both, appended, appendLent, appendAnswer, askTakeFront, frontTaken, takeFrontLent, takeFrontAnswer}
 
 -- pending memory that questions 1 and 2 accept
 pub record Pending (l : Limits) (m : Memory) : Type 0 where

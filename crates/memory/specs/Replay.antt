@@ -1,8 +1,7 @@
 -- Replay memory: N blocks of bytes and as many lengths, of whose entries the first ones are taken. The state is what is left, and nothing
 -- lent changes.
-use Prim.Native.Nat.{ℕ, _+_, _*_, _-_, _≤_}
+use Prim.Native.Nat.{ℕ, _+_, _*_, _-_}
 use mathlib.Core.Bool.{Bool}
-use mathlib.Core.Path.{_≡_}
 use mathlib.Core.List.{List}
 use lib.ListN.{length, take, drop}
 use lib.Dec.{leb, eqb}

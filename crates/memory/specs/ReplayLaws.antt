@@ -1,11 +1,13 @@
 -- Laws of replay memory: what a yes tells, and the answers.
 use Prim.Native.Nat.{ℕ, _+_, _*_, _-_, _≤_, _<_}
-use mathlib.Core.Bool.{Bool, true, false}
-use mathlib.Core.Path.{_≡_, refl, sym, _∙_, ap}
+use mathlib.Core.Bool.{Bool, true, false, _&&_}
+use mathlib.Core.Path.{_≡_, sym, _∙_, ap}
 use native.Mathlib.Omega.{arith}
-use lib.ListN.{length}
+use mathlib.Core.List.{List}
+use lib.ListN.{length, take, drop}
 use borrow.Author.Tests.{leb-true, le-leb, eqb-true, eq-eqb}
-use Rattle.laws.specs.Choice.{also-left, also-right, also-both, ask, ask-yes, ask-holds, ask-fails, andThen, andThen-left, andThen-right, andThen-both, andThen-first, andThen-done, not-so, false-true}
+use Rattle.laws.specs.Choice.{also, and-also, also-left, also-right, also-both, ask, ask-yes, ask-holds, ask-fails, andThen-left, andThen-right, andThen-both, andThen-first, andThen-done, not-so, false-true}
+use Rattle.laws.specs.Fold.{same}
 use Rattle.layout.specs.Geometry.{BlockSize, MostBlocks}
 use Rattle.lengths.specs.Entries.{Entries, entriesHeld, entries-facts, facts-entries, entries-bytes, entries-nothing}
 use Rattle.lengths.specs.declared.held.Held.the-variants as held
@@ -14,7 +16,7 @@ use Rattle.memory.specs.declared.count.Counted.{Counted}
 use Rattle.memory.specs.declared.count.Counted.the-variants as answer
 use Rattle.memory.specs.Answer.{counted, counted-now, counted-refused, counted-done, counted-no}
 use Rattle.memory.specs.Given.{Memory, countOf, askGiven, given-asked, given-small}
-use Rattle.memory.specs.Replay.{replayLent, askReplayLent, leftOf, leftOk, askReplay, isNext, nextOfReplay, askNext, takenThen, nextAnswer}
+use Rattle.memory.specs.Replay.{replayLent, askReplayLent, leftOf, leftOk, askReplay, isNext, nextOfReplay, askNext, nextAnswer}
 
 -- question 1
 pub record ReplayLent (blocks bytes lens : ℕ) : Type 0 where
@@ -102,6 +104,14 @@ module _ (blocks : ℕ) (m : Memory) (taken : Count) (q : askReplayLent blocks (
       let f = entries-bytes _ _ _ _ t h in
       ap (λ (n : ℕ). answer.Now (record { entries = m .count - taken .entries; bytes = n })) (f .1)
       ∙ counted-done _ _ (andThen-both _ _ q (ask-holds 2 _ (facts-left m taken (record { behind = b; held = f .0 }))))
+
+-- the test, from what was compared
+pub next-test : (bytes lens : List ℕ) (left : ℕ) (taken : Count) (bodies sizes : List ℕ) (new : Count) (a b : Bool) → new .entries ≤ left
+    → a ≡ same (take (new .entries) sizes) (take (new .entries) (drop (taken .entries) lens))
+    → b ≡ same (take (new .bytes) bodies) (take (new .bytes) (drop (taken .bytes) bytes))
+    → a && b ≡ isNext bytes lens left taken bodies sizes new
+unfolding isNext also
+next-test bytes lens left taken bodies sizes new a b h ha hb = and-also a b ∙ sym (simp (le-leb (new .entries) left h) (λ i. also (sym ha i) (sym hb i)))
 
 -- the answer of a replay step, in the order of its questions
 module _ (blocks : ℕ) (m : Memory) (taken : Count) (e : Memory) where

@@ -55,7 +55,7 @@ pub fn count_left(blocks: u64, bytes: &[u8], lens: &[u16], n: u64, taken: Count)
     })
 }
 
-// Are the new entries the next of those that are left, by their lengths, then by their bytes? Asks nothing.
+// Are the new entries the next of those that are left, by their lengths and by their bytes? Asks nothing.
 pub fn is_next(
     bytes: &[u8],
     lens: &[u16],
@@ -71,10 +71,8 @@ pub fn is_next(
         return false;
     }
     let lengths = same_lengths_at(sizes, new.entries as usize, lens, taken.entries as usize);
-    if lengths {
-        return same_bytes_at(bodies, new.bytes as usize, bytes, taken.bytes as usize);
-    }
-    false
+    let body = same_bytes_at(bodies, new.bytes as usize, bytes, taken.bytes as usize);
+    lengths & body
 }
 
 // The k given entries are taken: questions 1, 2 and 4, then 6, that they are exactly the next k of the replay.

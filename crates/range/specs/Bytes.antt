@@ -1,18 +1,18 @@
 -- Numbers and lengths as bytes: what is written low byte first reads back as it was, and bytes that were read are what would be written.
 -- Over the width w of a number in bytes. Assumes nothing.
 use Prim.Native.Nat.{ℕ, zero, suc, _+_, _*_, _/_, _%_, _^_, _≤_, _<_}
-use mathlib.Core.Bool.{Bool, true, false}
+use mathlib.Core.Bool.{Bool, true}
 use mathlib.Core.Path.{_≡_, refl, sym, _∙_, ap}
 use mathlib.Core.List.{List, [], _∷_, _++_, append-assoc}
-use native.Mathlib.Nat.{pow-suc, pow-zero, zero-mul, suc-mul, add-comm}
+use native.Mathlib.Nat.{zero-mul, suc-mul, add-comm}
 use native.Mathlib.Omega.{arith}
 use lib.ListN.{length, take, drop, getD, length-append, length-drop}
-use lib.Dec.{leb, ltb}
-use lib.Seq.{take-at, drop-at, take-add, drop-drop, length-take-le, getD-drop}
+use lib.Dec.{leb}
+use lib.Seq.{take-at, drop-at, take-add, length-take-le, getD-drop}
 use borrow.Author.Tests.{lt-ltb, le-leb, ltb-true, leb-true}
 use Rattle.laws.specs.Choice.{also, also-left, also-right, also-both, also-true}
 use Rattle.laws.specs.Fold.{every, every-append, every-take, every-drop, every-all, every-at}
-use Rattle.laws.specs.Digits.{fromDigits, isDigit, length-digits, digits-one, digits-two, fromDigits-one, fromDigits-two, fromDigits-digits, digits-fromDigits, digits-each}
+use Rattle.laws.specs.Digits.{fromDigits, isDigit, length-digits, digits-two, fromDigits-one, fromDigits-two, fromDigits-digits, digits-fromDigits, digits-each}
 use Rattle.range.specs.Form.{MostEntryLength, lowFirst, fromLow, lengthBytes, lengthsFrom, okLength, blockCount, entryCount}
 
 -- a number that a byte holds, and a list of such
@@ -32,17 +32,9 @@ unfolding isDigit
 bytes-at xs i b h = ltb-true (getD xs i 0) 256 (every-at isByte xs i 0 b h)
 
 -- a length within the limits
-pub ok-low : (most n : ℕ) → okLength most n ≡ true → 1 ≤ n
-unfolding okLength
-ok-low most n e = leb-true 1 n (also-left (leb 1 n) (leb n most) e)
-
 pub ok-high : (most n : ℕ) → okLength most n ≡ true → n ≤ most
 unfolding okLength
 ok-high most n e = leb-true n most (also-right (leb 1 n) (leb n most) e)
-
-pub ok-yes : (most n : ℕ) → 1 ≤ n → n ≤ most → okLength most n ≡ true
-unfolding okLength
-ok-yes most n h k = also-both (leb 1 n) (leb n most) (le-leb 1 n h) (le-leb n most k)
 
 -- a byte can't be above the greatest length of one byte
 pub ok-byte : (n : ℕ) → n < 256 → okLength MostEntryLength n ≡ leb 1 n
@@ -89,12 +81,6 @@ unfolding lengthsFrom
 length-lengthsFrom w zero xs = refl
 length-lengthsFrom w (suc e) xs = ap suc (length-lengthsFrom w e (drop w xs))
 
--- one length after another
-pub lengthBytes-append : (w : ℕ) (ns ms : List ℕ) → lengthBytes w (ns ++ ms) ≡ lengthBytes w ns ++ lengthBytes w ms
-unfolding lengthBytes
-lengthBytes-append w [] ms = refl
-lengthBytes-append w (n ∷ ns) ms = rw (lengthBytes-append w ns ms) (sym (append-assoc (lowFirst w n) (lengthBytes w ns) (lengthBytes w ms)))
-
 pub lengthBytes-bytes : (w : ℕ) (ns : List ℕ) → Bytes (lengthBytes w ns)
 unfolding lengthBytes every
 lengthBytes-bytes w [] = refl
@@ -127,30 +113,9 @@ lengthBytes-lengthsFrom w (suc e) xs b h =
     = lengthBytes-lengthsFrom w e (drop w xs) (every-drop isByte w xs b) (simp length-drop (omega arith)) in
     (λ i. first i ++ rest i) ∙ sym (take-add w (e * w) xs) ∙ ap (λ (n : ℕ). take n xs) (add-comm w (e * w) ∙ sym (suc-mul e w))
 
--- length i, and only the lengths' own bytes are looked at
-pub lengthsFrom-at : (w e : ℕ) (xs : List ℕ) (i : ℕ) → i < e → getD (lengthsFrom w e xs) i 0 ≡ fromLow (take w (drop (i * w) xs))
-unfolding lengthsFrom
-lengthsFrom-at w zero xs i h = absurd (omega arith)
-lengthsFrom-at w (suc e) xs zero h = ap (λ (n : ℕ). fromLow (take w (drop n xs))) (sym (zero-mul w))
-lengthsFrom-at w (suc e) xs (suc i) h =
-    lengthsFrom-at w e (drop w xs) i (omega arith)
-    ∙ ap (λ (l : List ℕ). fromLow (take w l)) (drop-drop (i * w) w xs)
-    ∙ ap (λ (n : ℕ). fromLow (take w (drop n xs))) (add-comm w (i * w) ∙ sym (suc-mul i w))
-
 -- at one byte each, lengths are their own bytes
-pub lengthBytes-one : (ns : List ℕ) → Bytes ns → lengthBytes 1 ns ≡ ns
-unfolding lengthBytes every isDigit
-lengthBytes-one [] b = refl
-lengthBytes-one (n ∷ ns) b =
-    let h : n < 256 = ltb-true n 256 (also-left (ltb n 256) (every isByte ns) b) in
-    λ i. digits-one 256 n h i ++ lengthBytes-one ns (also-right (ltb n 256) (every isByte ns) b) i
-
 pub lengthsFrom-one : (e : ℕ) (xs : List ℕ) → e ≤ length xs → lengthsFrom 1 e xs ≡ take e xs
 unfolding lengthsFrom
 lengthsFrom-one zero xs h = refl
 lengthsFrom-one (suc e) [] h = absurd (omega arith)
 lengthsFrom-one (suc e) (x ∷ xs) h = λ i. fromDigits-one 256 x i ∷ lengthsFrom-one e xs (omega arith) i
-
--- lengths within the limits of one byte are bytes
-pub ok-bytes : (most : ℕ) (ns : List ℕ) → most < 256 → every (okLength most) ns ≡ true → Bytes ns
-ok-bytes most ns h e = bytes-all ns (λ i l. let k = ok-high most (getD ns i 0) (every-at (okLength most) ns i 0 e l) in omega arith)

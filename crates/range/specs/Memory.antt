@@ -1,17 +1,17 @@
 -- Entries in lent memory: their bytes back to back from the front, their lengths in order, and a count. What the memory stands for
 -- depends on the counted part alone; entries written behind it come after the old ones, and moving the rest to the front takes the first
 -- ones off. Assumes nothing.
-use Prim.Native.Nat.{ℕ, _+_, _*_, _-_, _≤_, _<_}
+use Prim.Native.Nat.{ℕ, _+_, _*_, _-_, _≤_}
 use mathlib.Core.Bool.{true}
 use mathlib.Core.Path.{_≡_, refl, sym, _∙_, ap}
 use mathlib.Core.List.{List, [], _++_, append-nil}
 use native.Mathlib.Omega.{arith}
-use lib.ListN.{length, take, drop, getD, replicate}
-use lib.Seq.{take-take, length-take-le, getD-take, take-add}
+use lib.ListN.{length, take, drop, replicate}
+use lib.Seq.{take-take, length-take-le, take-add}
 use Rattle.laws.specs.Part.{drop-take, length-part}
 use Rattle.laws.specs.Splice.{splice, take-splice, take-splice-through, part-splice}
 use Rattle.laws.specs.Fold.{sum, every, sum-append}
-use Rattle.laws.specs.Cut.{cut, flat, lengths, length-flat, length-cut, lengths-cut, flat-cut, cut-flat, cut-at, cut-append, cut-enough, cut-take, cut-drop}
+use Rattle.laws.specs.Cut.{cut, flat, lengths, length-flat, length-cut, lengths-cut, flat-cut, cut-flat, cut-append, cut-enough, cut-take, cut-drop}
 use Rattle.range.specs.Form.{Entry, BlockSize, MostEntries, HeadSize, lengthBytes, used, blocksFor, usedAt, blocksAt, encodeAt, okLength, Good}
 use Rattle.range.specs.Runs.{head, encode-is}
 
@@ -61,13 +61,6 @@ module _ (bytes lens : List ℕ) (n : ℕ) where
   pub flat-view : flat (view bytes lens n) ≡ take (total lens n) bytes
   unfolding view
   flat-view = flat-cut (take n lens) bytes
-
-  -- entry i as a part of the bytes
-  pub view-at : (i : ℕ) → i < n → n ≤ length lens → getD (view bytes lens n) i [] ≡ take (getD lens i 0) (drop (total lens i) bytes)
-  unfolding view
-  view-at i h k =
-      cut-at (take n lens) bytes i (rw (length-take-le n lens k) h)
-      ∙ (λ j. take (getD-take n lens i 0 h j) (drop (sum (take-take i n lens (omega (arith, h)) j)) bytes))
 
   -- only what is counted is looked at
   pub view-same : (bytes′ lens′ : List ℕ) → take n lens ≡ take n lens′ → take (total lens n) bytes ≡ take (total lens n) bytes′

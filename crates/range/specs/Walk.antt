@@ -7,7 +7,7 @@ use mathlib.Core.Path.{_≡_, sym, _∙_, ap}
 use mathlib.Core.List.{List, [], _++_, map}
 use native.Mathlib.Omega.{arith}
 use lib.ListN.{length, take, drop, length-take, length-drop}
-use lib.Seq.{take-all, take-take, drop-drop, length-take-le}
+use lib.Seq.{take-take, drop-drop, length-take-le}
 use Rattle.laws.specs.Choice.{also}
 use Rattle.laws.specs.Part.{drop-end, part-of-front}
 use Rattle.laws.specs.Fold.{every}
@@ -74,18 +74,10 @@ module _ (w most : ℕ) (xs : List ℕ) (at : ℕ) where
         ∙ (λ i. also (parsesAt w most (take (size i) (drop at xs))) (allParseAt w most (drop (size i) (drop at xs))))
         ∙ ap (λ (l : List ℕ). also (parsesAt w most (take n (drop at xs))) (allParseAt w most l)) (drop-drop n at xs)
 
-    -- this one doesn't parse, or passes the end; this one does
+    -- this one doesn't parse; this one does
     pub all-no : allParseAt w most (drop at xs) ≡ allParseAt w most xs → parsesAt w most (take n (drop at xs)) ≡ false → false ≡ allParseAt w most xs
     unfolding also
     all-no e q = (λ i. also (sym q i) (allParseAt w most (drop (at + n) xs))) ∙ sym all-next ∙ e
-
-    pub all-past : allParseAt w most (drop at xs) ≡ allParseAt w most xs → length xs < at + n → false ≡ allParseAt w most xs
-    all-past e l = all-no e (sym bad)
-      where
-        bad : false ≡ parsesAt w most (take n (drop at xs))
-        bad =
-            rw (take-all n (drop at xs) (simp length-drop (omega arith)))
-            (parses-part w most (drop at xs) (λ q. omega (arith, length-drop at xs)))
 
     pub all-yes : allParseAt w most (drop at xs) ≡ allParseAt w most xs → parsesAt w most (take n (drop at xs)) ≡ true
         → allParseAt w most (drop (at + n) xs) ≡ allParseAt w most xs

@@ -21,7 +21,7 @@ use Rattle.reader.specs.declared.answer.Front.{Front}
 use Rattle.reader.specs.declared.answer.Front.the-variants as front
 use Rattle.reader.specs.declared.answer.Scanned.the-variants as scan
 use Rattle.reader.specs.Answer.{scanned}
-use Rattle.reader.specs.Range.{contentsOf, countsOk, said, Said, Small, Counts, counts-yes, counts-facts, lengths-part, contents-small, contents-said, contents-whole}
+use Rattle.reader.specs.Range.{contentsOf, countsOk, said, Said, Small, counts-yes, counts-facts, lengths-part, contents-small, contents-said, contents-whole}
 
 -- the bytes of the range in front, and its entries
 abbrev pub frontRange : List ℕ → List ℕ
@@ -73,7 +73,7 @@ module _ (xs : List ℕ) (p : InFront xs) where
   front-lengths : lengthsAt LengthWidth (frontRange xs) ≡ lengthsAt LengthWidth xs
   front-lengths = let s = shape in lengthsAt-take (rangeSize xs) xs (omega (arith, same-count, front-length, front-some)) front-within
 
-  pub lengths-front : lengths (frontEntries xs) ≡ lengthsAt LengthWidth xs
+  lengths-front : lengths (frontEntries xs) ≡ lengthsAt LengthWidth xs
   lengths-front = lengths-entriesAt LengthWidth MostEntryLength (frontRange xs) shape ∙ front-lengths
 
   flat-front : flat (frontEntries xs) ≡ take (sum (lengthsAt LengthWidth xs)) (drop (HeadSize + entryCount xs) xs)

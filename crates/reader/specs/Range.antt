@@ -1,20 +1,18 @@
--- What the reader of one range asks and answers: the contents that the bytes give, in the reader's own numbers, and the ways out of its
--- questions. Assumes nothing.
+-- What bytes say of themselves, taken as a range, in a reader's own numbers; and the question and the count alone, from what was scanned.
+-- Assumes nothing.
 use Prim.Native.Nat.{ℕ, _+_, _*_, _-_, _≤_, _<_}
-use mathlib.Core.Bool.{Bool, true, false, cond}
+use mathlib.Core.Bool.{Bool, true, cond}
 use mathlib.Core.Path.{_≡_, refl, sym, _∙_, ap}
 use mathlib.Core.List.{List}
 use native.Mathlib.Omega.{arith}
 use lib.ListN.{length, take, drop, getD}
 use lib.Dec.{leb, eqb}
 use borrow.Author.Tests.{le-leb, lt-leb, eq-eqb, leb-true, eqb-true}
-use Rattle.laws.specs.Choice.{by-leb, also, ask, ask-yes, also-left, also-right, also-both, not-so, false-true}
-use Rattle.laws.specs.Part.{tail-is}
-use Rattle.laws.specs.Fold.{sum, every, sum-bound}
-use Rattle.range.specs.Form.{BlockSize, MostEntries, MostEntryLength, LengthWidth, HeadSize, used, blocksFor, blockCount, entryCount, lengthsAt, usedIn, okLength, isZero, entries, parses}
+use Rattle.laws.specs.Choice.{by-leb, also, ask, ask-yes, also-left, also-right, also-both}
+use Rattle.laws.specs.Fold.{sum, sum-bound}
+use Rattle.range.specs.Form.{MostEntries, MostEntryLength, LengthWidth, HeadSize, used, blocksFor, blockCount, entryCount, lengthsAt, entries, parses}
 use Rattle.range.specs.Bytes.{Bytes, bytes-at, blockCount-is, entryCount-is}
-use Rattle.range.specs.Shape.{Shape, shape-of, shape-facts, shape-yes, lengthsAt-one, lengthsAt-one-at, length-lengthsAt, length-entriesAt}
-use Rattle.range.specs.Round.{lengths-entriesAt}
+use Rattle.range.specs.Shape.{Shape, shape-facts, lengthsAt-one, lengthsAt-one-at, length-lengthsAt, length-entriesAt}
 use Rattle.reader.specs.declared.answer.Contents.{Contents}
 use Rattle.reader.specs.declared.answer.Scanned.the-variants as scan
 use Rattle.reader.specs.declared.answer.Counted.the-variants as count
@@ -125,9 +123,6 @@ counts-facts c h =
       few = leb-true (c .entries) MostEntries (also-left _ _ k);
       fewest = eqb-true (c .blocks) (blocksFor (used LengthWidth (c .entries) (c .bytes))) (also-right _ _ k);
     }
-
-pub counts-no : (c : Contents) → (Counts c → ⊥) → false ≡ countsOk c
-counts-no c h = sym (not-so (countsOk c) (λ k. h (counts-facts c k)))
 
 -- the question alone, and the count alone, from what was scanned
 module _ (xs : List ℕ) where

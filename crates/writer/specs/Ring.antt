@@ -16,7 +16,7 @@ use Rattle.laws.specs.Ring.{wrap, wrap-below}
 use Rattle.laws.specs.Around.{around, spliceAround, around-here, around-run}
 use Rattle.layout.specs.Geometry.{BlockSize, MostBlocks}
 use Rattle.range.specs.Form.{MostEntries, MostEntryLength, LengthWidth, HeadSize, lengthBytes, used, blocksFor, blocks, encode, parse}
-use Rattle.range.specs.Blocks.{blocks-hold, format-sizes, length-encodeAt}
+use Rattle.range.specs.Blocks.{format-sizes, length-encodeAt}
 use Rattle.range.specs.Round.{parse-encode}
 use Rattle.range.specs.Memory.{view, total, rangeFrom, rangeFrom-view}
 use Rattle.range.specs.Runs.{head, length-head}

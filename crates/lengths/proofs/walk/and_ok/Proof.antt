@@ -1,4 +1,3 @@
-use mathlib.Core.Bool.{Bool}
 use mathlib.Core.Path.{_∙_, ap}
 use Rattle.laws.specs.Choice.{also, and-also}
 use Rattle.range.specs.Form.{okLength}

@@ -1,9 +1,7 @@
 use borrow.Author.Needs.{needs}
-use denote.Ref.{now}
-use mathlib.Core.Path.{_≡_, sym, _∙_}
+use mathlib.Core.Path.{sym, _∙_}
 use native.Mathlib.Omega.{arith}
 use Rattle.memory.specs.Answer.{pending-stopped}
-use Rattle.memory.specs.Given.{memory}
 use Rattle.memory.specs.PendingLaws.{append-pending, append-given, append-sums, append-full, append-done}
 use Rattle.memory.proofs.pending.append.Statement.{statement}
 use Rattle.memory.proofs.pending.append.Tie as tie

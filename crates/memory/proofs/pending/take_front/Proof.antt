@@ -1,6 +1,5 @@
 use borrow.Author.Needs.{needs}
-use denote.Ref.{now}
-use mathlib.Core.Path.{_≡_, sym, _∙_}
+use mathlib.Core.Path.{sym, _∙_}
 use native.Mathlib.Omega.{arith}
 use Rattle.memory.specs.Answer.{pending-stopped}
 use Rattle.memory.specs.PendingLaws.{front-unheld, front-past, front-less, front-done}

@@ -1,7 +1,7 @@
 use borrow.Author.Needs.{needs}
 use mathlib.Core.Path.{sym, _∙_}
 use native.Mathlib.Omega.{arith}
-use Rattle.laws.specs.Choice.{tests, ask, andThen}
+use Rattle.laws.specs.Choice.{tests, andThen}
 use Rattle.lengths.specs.Entries.{entries-bytes}
 use Rattle.memory.specs.Answer.{counted}
 use Rattle.memory.specs.Replay.{askReplay}

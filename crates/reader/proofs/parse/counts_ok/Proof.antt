@@ -1,5 +1,4 @@
 use borrow.Author.Needs.{needs}
-use mathlib.Core.Path.{refl}
 use Rattle.laws.specs.Choice.{tests, also}
 use Rattle.reader.specs.Range.{countsOk}
 use Rattle.reader.proofs.parse.counts_ok.Statement.{statement}

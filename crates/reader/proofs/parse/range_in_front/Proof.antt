@@ -4,7 +4,7 @@ use mathlib.Core.Path.{sym, _∙_}
 use native.Mathlib.Omega.{arith}
 use Rattle.range.specs.Bytes.{bytes-all}
 use Rattle.reader.specs.Front.{front-small, front-past, front-counts, front-counted, front-holds, front-bad-length, front-nonzero, front-yes}
-use Rattle.reader.specs.Range.{Small, Said, Counts, counts-facts}
+use Rattle.reader.specs.Range.{Small, Said}
 use Rattle.reader.proofs.parse.range_in_front.Statement.{statement}
 use Rattle.reader.proofs.parse.range_in_front.Tie as tie
 
