@@ -32,6 +32,14 @@ unfolding isDigit
 bytes-at xs i b h = ltb-true (getD xs i 0) 256 (every-at isByte xs i 0 b h)
 
 -- a length within the limits
+pub ok-low : (most n : ℕ) → okLength most n ≡ true → 1 ≤ n
+unfolding okLength
+ok-low most n e = leb-true 1 n (also-left (leb 1 n) (leb n most) e)
+
+pub ok-yes : (most n : ℕ) → 1 ≤ n → n ≤ most → okLength most n ≡ true
+unfolding okLength
+ok-yes most n h k = also-both (leb 1 n) (leb n most) (le-leb 1 n h) (le-leb n most k)
+
 pub ok-high : (most n : ℕ) → okLength most n ≡ true → n ≤ most
 unfolding okLength
 ok-high most n e = leb-true n most (also-right (leb 1 n) (leb n most) e)
