@@ -19,7 +19,7 @@ use Rattle.memory.specs.declared.limits.Limits.{Limits}
 use Rattle.memory.specs.declared.count.Count.{Count}
 use Rattle.memory.specs.declared.count.Counted.the-variants as answer
 use Rattle.memory.specs.declared.count.PendingCount.the-variants as pending
-use Rattle.memory.specs.Limits.{askPendingLent, PendingLent, lent-asked, asked-lent, askRoom, room-asked, room-yes}
+use Rattle.memory.specs.Limits.{MostBytes, askPendingLent, PendingLent, lent-asked, asked-lent, askRoom, room-asked, room-yes}
 use Rattle.memory.specs.Answer.{counted, counted-now, counted-refused, counted-done, counted-no, pendingCounted, pending-now, pending-done, pending-no}
 use Rattle.memory.specs.Given.{Memory, bytesOf, countOf, askGiven, Given, given-asked, asked-given, given-small}
 use Rattle.memory.specs.Pending.{askPending, askFrozen, firstOf, askAppend, both, appended, appendLent, appendAnswer, askTakeFront, frontTaken, takeFrontLent, takeFrontAnswer}
@@ -43,7 +43,7 @@ asked-pending l m p =
     andThen-both _ _ (asked-lent l (length (m .bytes)) (length (m .lens)) (p .lent)) (ask-holds 2 _ (facts-entries _ _ _ _ (p .held)))
 
 -- no more entries and bytes than the limits
-pub pending-small : (l : Limits) (m : Memory) → askPending l m ≡ 0 → (m .count ≤ 1024) × (bytesOf m ≤ 65536)
+pub pending-small : (l : Limits) (m : Memory) → askPending l m ≡ 0 → (m .count ≤ MostEntries) × (bytesOf m ≤ MostBytes)
 pending-small l m q =
     let p = pending-asked l m q in
     let few = p .lent .few in
