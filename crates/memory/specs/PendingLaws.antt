@@ -11,6 +11,7 @@ use borrow.Author.Tests.{leb-true, le-leb}
 use Rattle.laws.specs.Choice.{ask, ask-yes, ask-holds, ask-fails, andThen, andThen-left, andThen-right, andThen-both, andThen-first, andThen-done, andThen-end, unless, unless-kept, unless-done, not-so, false-true}
 use Rattle.laws.specs.Fold.{sum}
 use Rattle.laws.specs.Splice.{splice, clipped, clipped-fits}
+use Rattle.range.specs.Form.{MostEntries}
 use Rattle.range.specs.Memory.{total}
 use Rattle.lengths.specs.Entries.{Entries, part, entriesHeld, entriesOk, entries-facts, facts-entries, entries-bytes, entries-nothing, entries-first, entries-rest, entries-join, part-sum}
 use Rattle.lengths.specs.declared.held.Held.the-variants as held
@@ -18,7 +19,7 @@ use Rattle.memory.specs.declared.limits.Limits.{Limits}
 use Rattle.memory.specs.declared.count.Count.{Count}
 use Rattle.memory.specs.declared.count.Counted.the-variants as answer
 use Rattle.memory.specs.declared.count.PendingCount.the-variants as pending
-use Rattle.memory.specs.Limits.{askPendingLent, PendingLent, lent-asked, asked-lent, askRoom, room-asked, room-yes}
+use Rattle.memory.specs.Limits.{MostBytes, askPendingLent, PendingLent, lent-asked, asked-lent, askRoom, room-asked, room-yes}
 use Rattle.memory.specs.Answer.{counted, counted-now, counted-refused, counted-done, counted-no, pendingCounted, pending-now, pending-done, pending-no}
 use Rattle.memory.specs.Given.{Memory, bytesOf, countOf, askGiven, Given, given-asked, asked-given, given-small}
 use Rattle.memory.specs.Pending.{askPending, askFrozen, firstOf, askAppend, both, appended, appendLent, appendAnswer, askTakeFront, frontTaken, takeFrontLent, takeFrontAnswer}
@@ -42,7 +43,7 @@ asked-pending l m p =
     andThen-both _ _ (asked-lent l (length (m .bytes)) (length (m .lens)) (p .lent)) (ask-holds 2 _ (facts-entries _ _ _ _ (p .held)))
 
 -- no more entries and bytes than the limits
-pub pending-small : (l : Limits) (m : Memory) → askPending l m ≡ 0 → (m .count ≤ 1024) × (bytesOf m ≤ 65536)
+pub pending-small : (l : Limits) (m : Memory) → askPending l m ≡ 0 → (m .count ≤ MostEntries) × (bytesOf m ≤ MostBytes)
 pending-small l m q =
     let p = pending-asked l m q in
     let few = p .lent .few in
@@ -51,6 +52,16 @@ pending-small l m q =
     let there = p .held .there in
     let fit = p .held .fit in
     (omega arith, omega arith)
+
+-- the first k of them are held by the bytes, and are few enough for a range
+pub pending-first : (l : Limits) (m : Memory) (k : ℕ) → Pending l m → k ≤ m .count → Entries (length (m .bytes)) (m .lens) 0 k × (k ≤ MostEntries)
+pending-first l m k p h =
+    let lens = p .lent .lens-lent in
+    let few = p .lent .few in
+    let there = p .held .there in (
+      subst (λ (n : ℕ). Entries n (m .lens) 0 k) (sym (p .lent .bytes-lent)) (entries-first (l .bytes) (m .lens) 0 k (m .count) (p .held) (omega arith) h),
+      omega arith,
+    )
 
 -- the frozen entries and the others, one part after the other
 two-parts : (t u : Bool) → (t ≡ true → u ≡ true → ⊥) → andThen (ask 2 t) (ask 2 u) ≡ 2
@@ -170,6 +181,18 @@ asked-append l m e a =
     andThen-both _ _ (asked-pending l m (a .pending))
     (andThen-both _ _ (asked-given e (a .given)) (sym (room-yes l (both m e) (a .entries-fit) (a .bytes-fit))))
 
+-- the two writes then fit
+module _ (l : Limits) (m e : Memory) (a : Appends l m e) where
+  pub write-bytes-fits : clipped (m .bytes) (bytesOf m) (take (bytesOf e) (e .bytes)) ≡ appended m e .bytes
+  write-bytes-fits =
+      clipped-fits (m .bytes) (bytesOf m) (take (bytesOf e) (e .bytes))
+      (omega (arith, length-take-le (bytesOf e) (e .bytes) (a .given .held .fit), a .pending .lent .bytes-lent, a .bytes-fit))
+
+  pub write-lens-fits : clipped (m .lens) (m .count) (take (e .count) (e .lens)) ≡ appended m e .lens
+  write-lens-fits =
+      clipped-fits (m .lens) (m .count) (take (e .count) (e .lens))
+      (omega (arith, length-take-le (e .count) (e .lens) (a .given .held .there), a .pending .lent .lens-lent, a .entries-fit))
+
 module _ (l : Limits) (m e : Memory) where
   -- a refusal: the answer, and lent memory as it was
   append-no : (r : ℕ) → (r ≡ 0 → ⊥) → r ≡ askAppend l m e
@@ -244,26 +267,16 @@ module _ (l : Limits) (m e : Memory) where
           new = counted-now _ _ _ g .1
 
           bytes : clipped (m .bytes) (a .bytes) (take (c .bytes) (e .bytes)) ≡ appended m e .bytes
-          bytes =
-              (λ i. clipped (m .bytes) (append-held .1 i .bytes) (take (new i .bytes) (e .bytes)))
-              ∙ clipped-fits (m .bytes) (bytesOf m) (take (bytesOf e) (e .bytes))
-              (omega (arith, length-take-le (bytesOf e) (e .bytes) (all .given .held .fit), all .pending .lent .bytes-lent, all .bytes-fit))
+          bytes = (λ i. clipped (m .bytes) (append-held .1 i .bytes) (take (new i .bytes) (e .bytes))) ∙ write-bytes-fits l m e all
 
           lens : clipped (m .lens) (a .entries) (take (c .entries) (e .lens)) ≡ appended m e .lens
-          lens =
-              (λ i. clipped (m .lens) (append-held .1 i .entries) (take (new i .entries) (e .lens)))
-              ∙ clipped-fits (m .lens) (m .count) (take (e .count) (e .lens))
-              (omega (arith, length-take-le (e .count) (e .lens) (all .given .held .there), all .pending .lent .lens-lent, all .entries-fit))
+          lens = (λ i. clipped (m .lens) (append-held .1 i .entries) (take (new i .entries) (e .lens))) ∙ write-lens-fits l m e all
 
 -- taking from the front
 module _ (l : Limits) (m : Memory) (k : ℕ) where
-  pub front-pending : askTakeFront l m k ≡ 0 → Pending l m
+  pub front-asked : askTakeFront l m k ≡ 0 → Pending l m × (k ≤ m .count)
   unfolding askTakeFront
-  front-pending q = pending-asked l m (andThen-left _ _ q)
-
-  pub front-few : askTakeFront l m k ≡ 0 → k ≤ m .count
-  unfolding askTakeFront
-  front-few q = leb-true k (m .count) (ask-yes 4 _ (omega arith) (andThen-right _ _ q))
+  front-asked q = (pending-asked l m (andThen-left _ _ q), leb-true k (m .count) (ask-yes 4 _ (omega arith) (andThen-right _ _ q)))
 
   front-no : (r : ℕ) → (r ≡ 0 → ⊥) → r ≡ askTakeFront l m k
       → (answer.Refused r ≡ takeFrontAnswer l m k) × ((m .bytes ≡ takeFrontLent l m k .bytes) × (m .lens ≡ takeFrontLent l m k .lens))

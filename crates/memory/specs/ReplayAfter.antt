@@ -10,13 +10,14 @@ use lib.ListN.{length, take, drop, length-append, length-drop, take-append-drop}
 use lib.Seq.{take-at, drop-drop}
 use borrow.Author.Tests.{leb-true, le-leb}
 use Rattle.laws.specs.Choice.{also-left, also-right, also-both, ask-yes, ask-holds, andThen-left, andThen-right, andThen-both}
-use Rattle.laws.specs.Fold.{sum, same-is, is-same}
-use Rattle.laws.specs.Cut.{flat, lengths}
-use Rattle.range.specs.Form.{Entry}
-use Rattle.range.specs.Memory.{view, total, total-front, length-view, lengths-view, flat-view, view-same, view-take, view-drop}
+use Rattle.laws.specs.Splice.{splice, length-splice, take-splice-through}
+use Rattle.laws.specs.Fold.{sum, every, same-is, is-same}
+use Rattle.laws.specs.Cut.{flat, lengths, length-flat, length-lengths}
+use Rattle.range.specs.Form.{Entry, MostEntryLength, okLength}
+use Rattle.range.specs.Memory.{view, total, total-front, length-view, lengths-view, flat-view, view-same, view-take, view-drop, view-none, view-entries}
 use Rattle.lengths.specs.Entries.{Entries, part, part-is, part-sum, entries-rest}
 use Rattle.memory.specs.declared.count.Count.{Count}
-use Rattle.memory.specs.Given.{Memory, bytesOf, entriesOf, askGiven, Given, given-asked}
+use Rattle.memory.specs.Given.{Memory, memory, bytesOf, entriesOf, askGiven, Given, given-asked}
 use Rattle.memory.specs.Replay.{leftEntries, isNext, nextOfReplay, askReplay, askNext, takenThen}
 use Rattle.memory.specs.ReplayLaws.{Left, Replay, replay-asked, asked-replay}
 
@@ -29,6 +30,38 @@ pub left-drop : (m : Memory) (taken : Count) → taken .entries ≤ m .count →
 left-drop m taken h e =
     ap (λ (b : ℕ). view (drop b (m .bytes)) (drop (taken .entries) (m .lens)) (m .count - taken .entries)) e
     ∙ sym (view-drop (m .bytes) (m .lens) (m .count) (taken .entries) h)
+
+-- memory that entries were unpacked to: it holds these, none is taken, and question 2 accepts it
+abbrev pub filled : List ℕ → List ℕ → List Entry → Memory
+filled bytes lens es = memory (splice bytes 0 (flat es)) (splice lens 0 (lengths es)) (length es)
+
+module _ (bytes lens : List ℕ) (es : List Entry) (each : every (okLength MostEntryLength) (lengths es) ≡ true) (room : sum (lengths es) ≤ length bytes)
+    (places : length es ≤ length lens) where
+  pub filled-entries : entriesOf (filled bytes lens es) ≡ es
+  unfolding sum
+  filled-entries =
+      let n : length es ≡ 0 + length (lengths es) = omega (arith, length-lengths es) in
+      ap (view (splice bytes 0 (flat es)) (splice lens 0 (lengths es))) n
+      ∙ view-entries bytes lens 0 es (omega arith) (omega arith)
+      ∙ ap (λ (l : List Entry). l ++ es) (view-none bytes lens)
+
+  pub filled-left : Left (filled bytes lens es) (record { entries = 0; bytes = 0 })
+  filled-left =
+      let long : length (splice bytes 0 (flat es)) ≡ length bytes = length-splice bytes 0 (flat es) (omega (arith, length-flat es)) in
+      let many : length (splice lens 0 (lengths es)) ≡ length lens = length-splice lens 0 (lengths es) (omega (arith, length-lengths es)) in
+      let n : length es ≡ 0 + length (lengths es) = omega (arith, length-lengths es) in
+      let first : take (length es) (splice lens 0 (lengths es)) ≡ lengths es =
+      ap (λ (k : ℕ). take k (splice lens 0 (lengths es))) n ∙ take-splice-through lens 0 (lengths es) (omega arith) in
+      record {
+        behind = omega arith;
+        held =
+            record {
+              order = omega arith;
+              there = omega arith;
+              each = ap (every (okLength MostEntryLength)) first ∙ each;
+              fit = omega (arith, ap sum first);
+            };
+      }
 
 module _ (m : Memory) (taken : Count) (e : Memory) (h : Left m taken) (g : Given e) where
   bytes-left : List ℕ
