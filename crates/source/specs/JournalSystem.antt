@@ -5,17 +5,15 @@ use mathlib.Core.Bool.{Bool, true, false, cond, not}
 use mathlib.Core.Path.{_≡_, sym, subst}
 use mathlib.Core.List.{List, [], _++_}
 use mathlib.Core.Option.{Option, none, some}
-use lib.Dec.{eqb}
 use Rattle.laws.specs.Choice.{also, split-eq}
 use Rattle.layout.specs.declared.geometry.Geometry.{Geometry}
 use Rattle.layout.specs.declared.location.Location.{Location}
-use Rattle.layout.specs.Location.{sameLocation}
 use Rattle.layout.specs.Journal.{JournalPosAdd}
 use Rattle.interval.specs.declared.interval.JournalInterval.{JournalInterval}
 use Rattle.interval.specs.Interval.{interval}
 use Rattle.interval.specs.Facts.{ValidJournalInterval}
 use Rattle.superblock.specs.declared.superblock.Superblock.{Superblock}
-use Rattle.superblock.specs.Superblock.{IncrementSuperblockCounter, SelectSuperblock}
+use Rattle.superblock.specs.Superblock.{IncrementSuperblockCounter, SelectSuperblock, sameSuperblock}
 use Rattle.superblock.specs.Laws.{WFSuperblock, selects-second, selects-first, selected-second, selected-first}
 use Rattle.laws.specs.Sets.{Map, each, at}
 use Rattle.codec.specs.Codec.{JournalEntry, Codec, Disk-HasJournal, Disk-Journal}
@@ -115,13 +113,6 @@ abbrev pub HasLocationUpdateOccurredUnacked : Variables → Type 0
 HasLocationUpdateOccurredUnacked s = HasUpdateOccurredUnacked s × M.isReady (s .machine) (λ m. m .commitStatus ≡ M.CommitStatus.CommitAdvanceLocation)
 
 -- the tests of the last two
-unfoldable pub sameSuperblock : Superblock → Superblock → Bool
-sameSuperblock a b =
-    also (eqb (a .counter) (b .counter))
-    (also (eqb (a .journalStart) (b .journalStart))
-    (also (eqb (a .journalLen) (b .journalLen))
-    (sameLocation (a .indirectionTableLoc) (b .indirectionTableLoc))))
-
 abbrev pub holdsNew : Option Superblock → Option Superblock → Bool
 holdsNew slot none = false
 holdsNew none (some new) = false

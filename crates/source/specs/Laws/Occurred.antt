@@ -2,47 +2,25 @@
 use mathlib.Core.Bool.{true, false, not}
 use mathlib.Core.Path.{_≡_, refl, ap}
 use mathlib.Core.Option.{Option, none, some, Option·some-injective, Option·none-ne-some}
-use borrow.Author.Tests.{eqb-true, eq-eqb}
 use Rattle.laws.specs.Choice.{also-left, also-right, also-both, false-true}
-use Rattle.layout.specs.Laws.{same-location, location-same}
 use Rattle.superblock.specs.declared.superblock.Superblock.{Superblock}
+use Rattle.superblock.specs.Laws.{same-superblock, superblock-same}
 use Rattle.laws.specs.Sets.{at}
 use Rattle.source.specs.JournalDisk as D
 use Rattle.source.specs.JournalCache as M
-use Rattle.source.specs.JournalSystem.{Variables, onReady, sameSuperblock, holdsNew, isAdvanceLocation, hasUpdateOccurredUnacked, hasLocationUpdateOccurredUnacked, HasUpdateOccurredUnackedClauses, HasUpdateOccurredUnacked, HasLocationUpdateOccurredUnacked}
-
-pub superblock-same : (a b : Superblock) → sameSuperblock a b ≡ true → a ≡ b
-unfolding sameSuperblock
-superblock-same a b e =
-    let e1 = also-right _ _ e in
-    let e2 = also-right _ _ e1 in
-    λ i.
-    record {
-      counter = eqb-true (a .counter) (b .counter) (also-left _ _ e) i;
-      journalStart = eqb-true (a .journalStart) (b .journalStart) (also-left _ _ e1) i;
-      journalLen = eqb-true (a .journalLen) (b .journalLen) (also-left _ _ e2) i;
-      indirectionTableLoc = same-location (a .indirectionTableLoc) (b .indirectionTableLoc) (also-right _ _ e2) i;
-    }
-
-pub same-superblock : (a b : Superblock) → a ≡ b → sameSuperblock a b ≡ true
-unfolding sameSuperblock
-same-superblock a b e =
-    also-both _ _ (eq-eqb (a .counter) (b .counter) (ap (λ (v : Superblock). v .counter) e))
-    (also-both _ _ (eq-eqb (a .journalStart) (b .journalStart) (ap (λ (v : Superblock). v .journalStart) e))
-    (also-both _ _ (eq-eqb (a .journalLen) (b .journalLen) (ap (λ (v : Superblock). v .journalLen) e))
-    (location-same (a .indirectionTableLoc) (b .indirectionTableLoc) (ap (λ (v : Superblock). v .indirectionTableLoc) e))))
+use Rattle.source.specs.JournalSystem.{Variables, onReady, holdsNew, isAdvanceLocation, hasUpdateOccurredUnacked, hasLocationUpdateOccurredUnacked, HasUpdateOccurredUnackedClauses, HasUpdateOccurredUnacked, HasLocationUpdateOccurredUnacked}
 
 holds-new : (slot o : Option Superblock) → holdsNew slot o ≡ true → (new : Superblock) × (o ≡ some new) × (slot ≡ o)
 holds-new none none e = false-true e
 holds-new (some v) none e = false-true e
 holds-new none (some new) e = false-true e
-holds-new (some v) (some new) e = (new, refl, ap (λ (x : Superblock). some x) (superblock-same v new e))
+holds-new (some v) (some new) e = (new, refl, ap (λ (x : Superblock). some x) (same-superblock v new e))
 
 new-holds : (slot o : Option Superblock) (new : Superblock) → o ≡ some new → slot ≡ o → holdsNew slot o ≡ true
 new-holds none none new p q = absurd (Option·none-ne-some new p)
 new-holds (some v) none new p q = absurd (Option·none-ne-some new p)
 new-holds none (some w) new p q = absurd (Option·none-ne-some w q)
-new-holds (some v) (some w) new p q = same-superblock v w (Option·some-injective v w q)
+new-holds (some v) (some w) new p q = superblock-same v w (Option·some-injective v w q)
 
 pub update-occurred : (s : Variables) → hasUpdateOccurredUnacked s ≡ true → HasUpdateOccurredUnacked s
 update-occurred s = go (s .machine)
