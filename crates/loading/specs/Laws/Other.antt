@@ -1,13 +1,14 @@
 -- Loading the journal: what each test of a piece tells, question 2's test as facts, what a yes to each step's questions tells, what an answer
 -- does by which piece awaits it, and how many blocks the pieces have; a law each way.
-use Prim.Native.Nat.{ℕ, _+_, _≤_, _<_}
-use mathlib.Core.Bool.{Bool, true, false, cond, not}
+use Prim.Native.Nat.{ℕ, _+_, _*_, _/_, _%_, _≤_, _<_}
+use mathlib.Core.Bool.{true, false, not}
 use mathlib.Core.Path.{_≡_, refl, sym, _∙_, ap}
 use mathlib.Core.Option.{Option, none, some}
-use mathlib.Core.Logic.{_⊎_, inl, inr}
+use mathlib.Core.Logic.{⊎-elim}
 use native.Mathlib.Omega.{arith}
-use borrow.Author.Tests.{leb-true, le-leb, eq-eqb, eqb-true}
-use Rattle.laws.specs.Choice.{also, ruin, false-true, not-so, split-bool, also-left, also-right, also-both, ask-yes, ask-holds, andThen-left, andThen-right, andThen-both}
+use lib.Dec.{eqb}
+use borrow.Author.Tests.{leb-true, le-leb, eq-eqb, ne-eqb, eqb-true}
+use Rattle.laws.specs.Choice.{also, either, either-left, either-right, either-cases, eqb-same, ruin, false-true, not-so, split-le, split-bool, also-left, also-right, also-both, ask-yes, ask-holds, andThen-left, andThen-right, andThen-both}
 use Rattle.laws.specs.Sets.{none-some}
 use Rattle.layout.specs.declared.geometry.Geometry.{Geometry}
 use Rattle.interval.specs.declared.interval.JournalInterval.{JournalInterval}
@@ -16,6 +17,7 @@ use Rattle.interval.specs.Interval.{interval}
 use Rattle.interval.specs.Laws.{lenOf, parts-none, parts-straight, parts-wrapped, parts-cases, parts-fit}
 use Rattle.superblock.specs.declared.superblock.Superblock.{Superblock}
 use Rattle.superblock.specs.declared.disk_op.JournalRead.{JournalRead}
+use Rattle.superblock.specs.declared.disk_op.JournalRead.the-variants as read
 use Rattle.superblock.specs.Superblock.{JournalFrontIntervalOfSuperblock, JournalBackIntervalOfSuperblock}
 use Rattle.superblock.specs.Laws.{WFSuperblock, superblock-facts, facts-superblock}
 use Rattle.loading.specs.declared.pieces.Piece.{Piece}
@@ -23,7 +25,7 @@ use Rattle.loading.specs.declared.pieces.Piece.the-variants as piece
 use Rattle.loading.specs.declared.other.LoadingOther.{LoadingOther}
 use Rattle.loading.specs.declared.other.Paged.{Paged}
 use Rattle.loading.specs.Pieces.{isThere, blocksOf, pieceInterval, pieceReads, pieceUnread, pieceLoaded, pieceReadsDiffer, pieceRead}
-use Rattle.loading.specs.Other.{frontOf, backOf, frontBlocks, backBlocks, piecesOk, loadingOtherOk, intervalAt, pieceAt, toPieces, askPageInJournalReq, intervalOf, pageInJournalReqInterval, place, placeOf, pageInJournalRespNext, askFinishLoadingOtherPhase}
+use Rattle.loading.specs.Other.{frontOf, backOf, frontBlocks, backBlocks, piecesOk, loadingOtherOk, intervalAt, pieceAt, toPieces, askPageInJournalReq, intervalOf, pageInJournalReqInterval, place, placeOf, takesBytes, askPageInJournalResp, pageInJournalRespNext, askFinishLoadingOtherPhase}
 use Rattle.loading.specs.Laws.Which.{which-asked, asked-which, not-true, true-not}
 
 -- A piece
@@ -238,6 +240,43 @@ module _ (s : LoadingOther) (id : ℕ) where
     pub nobody-next : (r : JournalRead) → pageInJournalRespNext s id r ≡ s
     unfolding pageInJournalRespNext
     nobody-next r = simp (not-reading (s .front) n, not-reading (s .back) m)
+
+-- as many bytes as the blocks have, told by a quotient
+module _ (p : Paged) (length : ℕ) where
+  pub takes-none : p .len ≡ 0 → takesBytes p length ≡ true
+  unfolding takesBytes
+  takes-none h = either-left _ _ (eq-eqb (p .len) 0 h)
+
+  module _ (n : p .len ≡ 0 → ⊥) where
+    pub takes-quotient : length % 4096 ≡ 0 → eqb (length / 4096) (p .len) ≡ takesBytes p length
+    unfolding takesBytes either
+    takes-quotient h = simp (ne-eqb (p .len) 0 n) (eqb-same (length / 4096) (p .len) length (p .len * 4096) (λ e. omega arith) (λ e. omega arith))
+
+    pub takes-rest : (length % 4096 ≡ 0 → ⊥) → takesBytes p length ≡ false
+    unfolding takesBytes either
+    takes-rest h = let k : length ≡ p .len * 4096 → ⊥ = λ e. h (omega arith) in simp (ne-eqb (p .len) 0 n, ne-eqb length (p .len * 4096) k)
+
+-- what a yes tells of a whole answer's bytes; a damaged one is asked nothing
+module _ (g : Geometry) (s : LoadingOther) (id length : ℕ) where
+  pub page-in-journal-resp-asked : askPageInJournalResp g s id read.Whole length ≡ 0 → 0 < placeOf g s id .len → length ≡ placeOf g s id .len * 4096
+  unfolding askPageInJournalResp takesBytes
+  page-in-journal-resp-asked e h =
+      ⊎-elim
+      (λ z. let k = eqb-true (placeOf g s id .len) 0 z in absurd (omega arith))
+      (λ z. eqb-true length (placeOf g s id .len * 4096) z)
+      (either-cases _ _ (ask-yes 4 _ (omega arith) e))
+
+  pub asked-page-in-journal-resp : (0 < placeOf g s id .len → length ≡ placeOf g s id .len * 4096) → askPageInJournalResp g s id read.Whole length ≡ 0
+  unfolding askPageInJournalResp takesBytes
+  asked-page-in-journal-resp f =
+      ask-holds 4 _
+      (split-le (placeOf g s id .len) 0
+      (λ l. either-left _ _ (eq-eqb (placeOf g s id .len) 0 (omega arith)))
+      (λ l. either-right _ _ (eq-eqb length (placeOf g s id .len * 4096) (f l))))
+
+  pub asked-damaged-journal : askPageInJournalResp g s id read.Damaged length ≡ 0
+  unfolding askPageInJournalResp
+  asked-damaged-journal = refl
 
 -- FinishLoadingOtherPhase
 
