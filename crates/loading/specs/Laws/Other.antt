@@ -241,6 +241,15 @@ module _ (s : LoadingOther) (id : ℕ) where
     unfolding pageInJournalRespNext
     nobody-next r = simp (not-reading (s .front) n, not-reading (s .back) m)
 
+-- the place lies within memory of N blocks
+pub place-in : (g : Geometry) (s : LoadingOther) (id : ℕ) → WFSuperblock g (s .superblock) → placeOf g s id .place + placeOf g s id .len ≤ g .blocks
+place-in g s id w = go (awaiting s id)
+  where
+    go : Awaiting s id → placeOf g s id .place + placeOf g s id .len ≤ g .blocks
+    go (front h) = rw (front-place s id h g) (omega (arith, blocks-add g (s .superblock) w, w .len-in))
+    go (back n h) = rw (back-place s id n h g) (omega (arith, blocks-add g (s .superblock) w, w .len-in))
+    go (nobody n m) = rw (nobody-place s id n m g) (omega arith)
+
 -- as many bytes as the blocks have, told by a quotient
 module _ (p : Paged) (length : ℕ) where
   pub takes-none : p .len ≡ 0 → takesBytes p length ≡ true
@@ -277,6 +286,10 @@ module _ (g : Geometry) (s : LoadingOther) (id length : ℕ) where
   pub asked-damaged-journal : askPageInJournalResp g s id read.Damaged length ≡ 0
   unfolding askPageInJournalResp
   asked-damaged-journal = refl
+
+  pub asked-unawaited : (r : JournalRead) → placeOf g s id .len ≡ 0 → askPageInJournalResp g s id r length ≡ 0
+  asked-unawaited read.Whole e = asked-page-in-journal-resp (λ l. absurd (omega arith))
+  asked-unawaited read.Damaged e = asked-damaged-journal
 
 -- FinishLoadingOtherPhase
 

@@ -27,9 +27,10 @@ use Rattle.loading.specs.declared.other.LoadingOther.{LoadingOther}
 use Rattle.loading.specs.declared.other.Paged.{Paged}
 use Rattle.loading.specs.Which.{isSecond}
 use Rattle.loading.specs.Other.{frontBlocks, backBlocks, loadingOtherOk, toPieces, placeOf, askPageInJournalResp, pageInJournalRespNext}
-use Rattle.loading.specs.Laws.Other.{LoadingOtherOk, loading-other-facts, front-blocks-is, back-blocks-is, front-some, back-some, Awaiting, front, back, nobody, awaiting, front-place, front-next, back-place, back-next, nobody-place, nobody-next, page-in-journal-resp-asked, asked-page-in-journal-resp}
-use Rattle.refine.specs.Machine.LoadingView.{two, blocksIn, frontIn, backIn, awaitedRead, loadedPiece, loadingOtherOf, otherSeen}
+use Rattle.loading.specs.Laws.Other.{LoadingOtherOk, loading-other-facts, front-blocks-is, back-blocks-is, front-some, back-some, Awaiting, front, back, nobody, awaiting, front-place, front-next, back-place, back-next, nobody-place, nobody-next, page-in-journal-resp-asked, asked-page-in-journal-resp, asked-damaged-journal, asked-unawaited}
+use Rattle.refine.specs.Machine.LoadingView.{two, blocksIn, frontIn, backIn, awaitedRead, loadedPiece, loadingOtherOf, otherSeen, LoadingOtherMeets}
 use Rattle.refine.specs.Machine.LoadingSeen.{awaited-is, reading-read}
+use Rattle.refine.specs.Machine.LoadingOther.{meets-other-facts}
 use Rattle.refine.specs.Machine.LoadedBlocks.{sized-flat, sized-blocks, blocks-here, blocks-before, blocks-behind, front-room}
 
 module _ (g : Geometry) (pieces : List ℕ) (s : LoadingOther) (y : Map SyncReqStatus) where
@@ -102,8 +103,7 @@ module _ (g : Geometry) (pieces : List ℕ) (s : LoadingOther) (y : Map SyncReqS
       not-front : waits true → s .front ≡ piece.Reading id → ⊥
       not-front h e = ok .reads-differ id e (waits-back h)
 
-      pub waits-interval : (which : Bool) → at (loadingOtherOf g pieces s y .journalReads) which ≡ some id → (v : JournalInterval)
-          → journalIntervalOfSuperblock g which (s .superblock) ≡ some v → placeOf g s id .len ≡ v .len
+      waits-interval : (which : Bool) → waits which → (v : JournalInterval) → journalIntervalOfSuperblock g which (s .superblock) ≡ some v → placeOf g s id .len ≡ v .len
       waits-interval false h v e = ap (λ (p : Paged). p .len) (front-place s id (waits-front h) g) ∙ front-blocks-is g (s .superblock) ∙ ap lenOf e
       waits-interval true h v e = ap (λ (p : Paged). p .len) (back-place s id (not-front h) (waits-back h) g) ∙ back-blocks-is g (s .superblock) ∙ ap lenOf e
 
@@ -171,15 +171,16 @@ module _ (g : Geometry) (pieces : List ℕ) (s : LoadingOther) (y : Map SyncReqS
           },
         )
 
-    pub page-in-journal-resp-complete : loadingOtherOk g s ≡ true → length pieces ≡ g .blocks * 4096
-        → (jr : JournalRange) → lengths jr ≡ replicate (placeOf g s id .len) 4096
-        → (s′ : Variables) → PageInJournalResp⁺ (otherSeen g pieces s y) s′ (RespReadJournalOp id (some jr))
-        → (askPageInJournalResp g s id read.Whole (length (flat jr)) ≡ 0)
-        × (0 < placeOf g s id .len)
+    -- its blocks are those of the piece's interval (question 4)
+    pub page-in-journal-resp-complete : LoadingOtherMeets g pieces s y → length pieces ≡ g .blocks * 4096
+        → (jr : JournalRange) (s′ : Variables) (h : PageInJournalResp⁺ (otherSeen g pieces s y) s′ (RespReadJournalOp id (some jr)))
+        → ((v : JournalInterval) → journalIntervalOfSuperblock g (h .0) (s .superblock) ≡ some v → lengths jr ≡ replicate (v .len) 4096)
+        → (0 < placeOf g s id .len)
+        × (askPageInJournalResp g s id read.Whole (length (flat jr)) ≡ 0)
         × (s′ ≡ otherSeen g (splice pieces (placeOf g s id .place * 4096) (flat jr)) (pageInJournalRespNext s id read.Whole) y)
-    page-in-journal-resp-complete k size jr sized s′ h = (
-      asked-page-in-journal-resp g s id (length (flat jr)) (λ l. sized-flat (placeOf g s id .len) jr sized),
+    page-in-journal-resp-complete k size jr s′ h piece-size = (
       waits-len ok (h .0) waiting,
+      asked-page-in-journal-resp g s id (length (flat jr)) (λ l. sized-flat (placeOf g s id .len) jr sized),
       h .1 .next
           ∙ (λ i.
           Variables.LoadingOther
@@ -189,7 +190,7 @@ module _ (g : Geometry) (pieces : List ℕ) (s : LoadingOther) (y : Map SyncReqS
     )
       where
         ok : LoadingOtherOk g s
-        ok = loading-other-facts g s k
+        ok = meets-other-facts g pieces s y k
 
         same-id : (i : ReqId) (x : JournalRange) → RespReadJournalOp id (some jr) ≡ RespReadJournalOp i (some x) → i ≡ id
         same-id i x e = cc
@@ -200,6 +201,11 @@ module _ (g : Geometry) (pieces : List ℕ) (s : LoadingOther) (y : Map SyncReqS
         waiting : waits (h .0)
         waiting = h .1 .waiting ∙ ap some (same-id (h .1 .id) (h .1 .jr) (h .1 .op))
 
+        sized : lengths jr ≡ replicate (placeOf g s id .len) 4096
+        sized =
+            let t = k .inv .read-interval (h .0) id waiting in
+            piece-size (t .0) (t .1) ∙ ap (λ (n : ℕ). replicate n 4096) (sym (waits-interval ok (h .0) waiting (t .0) (t .1)))
+
     -- a damaged answer
     pub damaged-journal-sound : loadingOtherOk g s ≡ true → 0 < placeOf g s id .len
         → DamagedJournal (otherSeen g pieces s y) (otherSeen g pieces (pageInJournalRespNext s id read.Damaged) y) (RespReadJournalOp id none)
@@ -207,13 +213,15 @@ module _ (g : Geometry) (pieces : List ℕ) (s : LoadingOther) (y : Map SyncReqS
         let w = len-waits some-block in
         record { id = id; op = refl; which = w .0; waiting = w .1; next = ap Variables.LoadingOther (damaged-next (loading-other-facts g s k) (w .0) (w .1)) }
 
-    pub damaged-journal-complete : loadingOtherOk g s ≡ true → (s′ : Variables) → DamagedJournal (otherSeen g pieces s y) s′ (RespReadJournalOp id none)
-        → (0 < placeOf g s id .len) × (s′ ≡ otherSeen g pieces (pageInJournalRespNext s id read.Damaged) y)
-    damaged-journal-complete k s′ h =
-        (waits-len ok (h .which) waiting, h .next ∙ sym (ap Variables.LoadingOther (damaged-next ok (h .which) waiting)))
+    pub damaged-journal-complete : LoadingOtherMeets g pieces s y → (s′ : Variables) → DamagedJournal (otherSeen g pieces s y) s′ (RespReadJournalOp id none) → (n : ℕ)
+        → (0 < placeOf g s id .len)
+        × (askPageInJournalResp g s id read.Damaged n ≡ 0)
+        × (s′ ≡ otherSeen g pieces (pageInJournalRespNext s id read.Damaged) y)
+    damaged-journal-complete k s′ h n =
+        (waits-len ok (h .which) waiting, asked-damaged-journal g s id n, h .next ∙ sym (ap Variables.LoadingOther (damaged-next ok (h .which) waiting)))
       where
         ok : LoadingOtherOk g s
-        ok = loading-other-facts g s k
+        ok = meets-other-facts g pieces s y k
 
         same-id : (i : ReqId) → RespReadJournalOp id none ≡ RespReadJournalOp i none → i ≡ id
         same-id i e = cc
@@ -237,8 +245,10 @@ module _ (g : Geometry) (pieces : List ℕ) (s : LoadingOther) (y : Map SyncReqS
         nobody-does : (which : Bool) → waits which → ⊥
         nobody-does which h = let l = waits-len (loading-other-facts g s k) which h in omega arith
 
-    pub journal-unawaited-complete : (r : JournalRead) (journal : Option JournalRange) (s′ : Variables) → NoOp⁺ (otherSeen g pieces s y) s′ (RespReadJournalOp id journal)
-        → (placeOf g s id .len ≡ 0) × (s′ ≡ otherSeen g pieces (pageInJournalRespNext s id r) y)
-    journal-unawaited-complete r journal s′ h =
-        let n = nobody-waits (λ which w. h .unawaited (which, w)) r in
-        (n .0, h .source .next ∙ sym (ap (λ (x : LoadingOther). otherSeen g pieces x y) (n .1)))
+    pub journal-unawaited-complete : (r : JournalRead) (journal : Option JournalRange) (s′ : Variables) → NoOp⁺ (otherSeen g pieces s y) s′ (RespReadJournalOp id journal) → (n : ℕ)
+        → (placeOf g s id .len ≡ 0)
+        × (askPageInJournalResp g s id r n ≡ 0)
+        × (s′ ≡ otherSeen g pieces (pageInJournalRespNext s id r) y)
+    journal-unawaited-complete r journal s′ h n =
+        let u = nobody-waits (λ which w. h .unawaited (which, w)) r in
+        (u .0, asked-unawaited g s id n r (u .0), h .source .next ∙ sym (ap (λ (x : LoadingOther). otherSeen g pieces x y) (u .1)))

@@ -1,11 +1,12 @@
 -- 000's FinishLoadingOtherPhase, the half that loading has: the pieces that are there are in, and the range that is parsed is the front of lent
 -- memory, as many blocks as the superblock's journalLen.
-use Prim.Native.Nat.{ℕ, _≤_, _<_}
+use Prim.Native.Nat.{ℕ, _*_, _≤_, _<_}
 use mathlib.Core.Bool.{true, false}
 use mathlib.Core.Path.{_≡_, sym, _∙_, ap}
 use mathlib.Core.List.{List, [], _++_}
 use mathlib.Core.Option.{Option, some, Option·getD}
-use Rattle.laws.specs.Cut.{cut}
+use lib.ListN.{take}
+use Rattle.laws.specs.Cut.{cut, flat}
 use Rattle.laws.specs.Sets.{Map, at}
 use Rattle.layout.specs.declared.geometry.Geometry.{Geometry}
 use Rattle.layout.specs.Geometry.{NumJournalBlocks}
@@ -21,7 +22,7 @@ use Rattle.loading.specs.Other.{frontBlocks, backBlocks, loadingOtherOk, askFin
 use Rattle.loading.specs.Laws.Other.{There, LoadingOtherOk, loading-other-facts, front-blocks-is, blocks-add, FinishLoadingOtherPhaseAsked, finish-loading-other-phase-asked, asked-finish-loading-other-phase}
 use Rattle.refine.specs.Machine.LoadingView.{blocksIn, frontIn, backIn, loadedPiece, loadingOtherOf}
 use Rattle.refine.specs.Machine.LoadingSeen.{loaded-is}
-use Rattle.refine.specs.Machine.LoadedBlocks.{blocks-append}
+use Rattle.refine.specs.Machine.LoadedBlocks.{flat-blocks, blocks-append}
 
 -- the clauses of FinishLoadingOtherPhase that speak of the state before, and what its `fullRange` is
 pub record LoadedClauses (g : Geometry) (s : LoadingOtherVariables) (range : JournalRange) : Type 0 where
@@ -69,6 +70,10 @@ module _ (g : Geometry) (pieces : List ℕ) (s : LoadingOther) (y : Map SyncReqS
         ∙ (λ i. front-got (_, p .front-is) i ++ back-got (_, p .back-is) i)
         ∙ blocks-append (frontBlocks g (s .superblock)) (backBlocks g (s .superblock)) pieces
         ∙ ap (λ (n : ℕ). blocksIn n pieces) (blocks-add g (s .superblock) (ok .superblock-wf)))
+
+    -- and as bytes
+    pub finish-loading-other-phase-bytes : flat (loaded g (loadingOtherOf g pieces s y)) ≡ take (loadedBlocks s * 4096) pieces
+    finish-loading-other-phase-bytes = ap flat finish-loading-other-phase-loads ∙ flat-blocks (loadedBlocks s) pieces
 
     pub finish-loading-other-phase-sound : LoadedClauses g (loadingOtherOf g pieces s y) (blocksIn (loadedBlocks s) pieces)
     finish-loading-other-phase-sound =

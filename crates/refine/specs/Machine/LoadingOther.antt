@@ -16,7 +16,7 @@ use Rattle.superblock.specs.Laws.{WFSuperblock}
 use Rattle.codec.specs.Codec.{JournalRange}
 use Rattle.source.specs.JournalDisk.{ReqId, DiskOp, ReqReadJournalOp}
 use Rattle.source.specs.JournalCache as M
-use Rattle.source.specs.JournalCache.{SyncReqStatus, Variables, LoadingOtherVariables, journalIntervalOfSuperblock, unlessIs, PageInJournalReq, InvLoadingOther}
+use Rattle.source.specs.JournalCache.{SyncReqStatus, Variables, LoadingOtherVariables, journalIntervalOfSuperblock, unlessIs, PageInJournalReq}
 use Rattle.loading.specs.declared.pieces.Piece.{Piece}
 use Rattle.loading.specs.declared.pieces.Piece.the-variants as piece
 use Rattle.loading.specs.declared.other.LoadingOther.{LoadingOther}
@@ -24,7 +24,7 @@ use Rattle.loading.specs.Which.{isSecond}
 use Rattle.loading.specs.Pieces.{withoutRead}
 use Rattle.loading.specs.Other.{frontBlocks, backBlocks, loadingOtherOk, intervalAt, pieceAt, toPieces, askPageInJournalReq, pageInJournalReqInterval, pageInJournalReqNext}
 use Rattle.loading.specs.Laws.Other.{There, LoadingOtherOk, loading-other-facts, facts-loading-other, front-blocks-is, back-blocks-is, page-in-journal-req-asked, asked-page-in-journal-req, req-interval}
-use Rattle.refine.specs.Machine.LoadingView.{two, ReadsDiffer, frontIn, backIn, awaitedRead, loadedPiece, loadingOtherOf, otherSeen}
+use Rattle.refine.specs.Machine.LoadingView.{two, frontIn, backIn, awaitedRead, loadedPiece, loadingOtherOf, otherSeen, LoadingOtherMeets}
 use Rattle.refine.specs.Machine.LoadingSeen.{at-named, awaited-is, loaded-is, in-blocks, unread-of, there-of, reading-read, in-read, without-read, without-piece, loaded-named, interval-named}
 use Rattle.refine.specs.Machine.LoadedBlocks.{blocks-sized, front-room, back-room}
 
@@ -32,10 +32,15 @@ module _ (g : Geometry) (pieces : List ℕ) (s : LoadingOther) (y : Map SyncReqS
   abbrev seen : LoadingOtherVariables
   seen = loadingOtherOf g pieces s y
 
-  -- Question 2: 000's invariant, document 01's "the two journal reads differ", and what the record adds: which is 0 or 1
+  -- Question 2
 
-  pub other-inv : loadingOtherOk g s ≡ true → InvLoadingOther g (loadingOtherOf g pieces s y)
-  other-inv e = record { superblock-wf = f .superblock-wf; read-interval = of-read; piece-interval = of-piece }
+  pub other-meets : loadingOtherOk g s ≡ true → LoadingOtherMeets g pieces s y
+  other-meets e =
+      record {
+        inv = record { superblock-wf = f .superblock-wf; read-interval = of-read; piece-interval = of-piece };
+        reads-differ = λ id p q. f .reads-differ id (awaited-is (s .front) id p) (awaited-is (s .back) id q);
+        which-in = f .which-in;
+      }
     where
       f : LoadingOtherOk g s
       f = loading-other-facts g s e
@@ -48,23 +53,18 @@ module _ (g : Geometry) (pieces : List ℕ) (s : LoadingOther) (y : Map SyncReqS
       of-piece false jr p = f .front-there (in-read (s .front) (loaded-is (s .front) (frontIn g pieces (s .superblock)) jr p))
       of-piece true jr p = f .back-there (in-read (s .back) (loaded-is (s .back) (backIn g pieces (s .superblock)) jr p))
 
-  pub other-differ : loadingOtherOk g s ≡ true → ReadsDiffer (loadingOtherOf g pieces s y .journalReads)
-  other-differ e id p q = loading-other-facts g s e .reads-differ id (awaited-is (s .front) id p) (awaited-is (s .back) id q)
+  pub meets-other-facts : LoadingOtherMeets g pieces s y → LoadingOtherOk g s
+  meets-other-facts h =
+      record {
+        superblock-wf = h .inv .superblock-wf;
+        which-in = h .which-in;
+        front-there = there-of (s .front) (frontIn g pieces (s .superblock)) (JournalFrontIntervalOfSuperblock g (s .superblock)) (h .inv .read-interval false) (h .inv .piece-interval false);
+        back-there = there-of (s .back) (backIn g pieces (s .superblock)) (JournalBackIntervalOfSuperblock g (s .superblock)) (h .inv .read-interval true) (h .inv .piece-interval true);
+        reads-differ = λ id p q. h .reads-differ id (ap awaitedRead p) (ap awaitedRead q);
+      }
 
-  pub other-which : loadingOtherOk g s ≡ true → s .whichSuperblock ≤ 1
-  other-which e = loading-other-facts g s e .which-in
-
-  pub other-ok : InvLoadingOther g (loadingOtherOf g pieces s y) → ReadsDiffer (loadingOtherOf g pieces s y .journalReads) → s .whichSuperblock ≤ 1
-      → loadingOtherOk g s ≡ true
-  other-ok h d l =
-      facts-loading-other g s
-      (record {
-        superblock-wf = h .superblock-wf;
-        which-in = l;
-        front-there = there-of (s .front) (frontIn g pieces (s .superblock)) (JournalFrontIntervalOfSuperblock g (s .superblock)) (h .read-interval false) (h .piece-interval false);
-        back-there = there-of (s .back) (backIn g pieces (s .superblock)) (JournalBackIntervalOfSuperblock g (s .superblock)) (h .read-interval true) (h .piece-interval true);
-        reads-differ = λ id p q. d id (ap awaitedRead p) (ap awaitedRead q);
-      })
+  pub meets-other : LoadingOtherMeets g pieces s y → loadingOtherOk g s ≡ true
+  meets-other h = facts-loading-other g s (meets-other-facts h)
 
   -- met by the type: no read is awaited for a piece already in
   pub other-read-or-in : (which : Bool) (id : ReqId) (jr : JournalRange) → at (loadingOtherOf g pieces s y .journalReads) which ≡ some id

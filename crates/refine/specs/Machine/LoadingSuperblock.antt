@@ -15,7 +15,7 @@ use Rattle.superblock.specs.declared.disk_op.SuperblockRead.{SuperblockRead}
 use Rattle.superblock.specs.Laws.{WFSuperblock}
 use Rattle.source.specs.JournalDisk.{ReqId, DiskOp, ReqReadSuperblockOp, RespReadSuperblockOp, NoDiskOp}
 use Rattle.source.specs.JournalCache as M
-use Rattle.source.specs.JournalCache.{SyncReqStatus, SuperblockReadResult, SuperblockSuccess, SuperblockUnfinished, SuperblockCorruption, Variables, superblockRead, PageInSuperblockResp, FinishLoadingSuperblockPhase, InvLoadingSuperblock}
+use Rattle.source.specs.JournalCache.{SyncReqStatus, SuperblockReadResult, SuperblockSuccess, SuperblockUnfinished, SuperblockCorruption, Variables, superblockRead, PageInSuperblockResp, FinishLoadingSuperblockPhase}
 use Rattle.source.specs.Departures.{NoOp⁺, PageInSuperblockReq⁺, AskAgain}
 use Rattle.loading.specs.declared.slots.SlotRead.{SlotRead}
 use Rattle.loading.specs.declared.slots.SlotRead.the-variants as slot
@@ -27,7 +27,7 @@ use Rattle.loading.specs.Other.{selectedOther}
 use Rattle.loading.specs.Superblocks.{slots, initial, loadingSuperblockOk, slotAt, otherSlot, toSlot, askPageInSuperblockReq, pageInSuperblockReqNext, superblockAwaited, pageInSuperblockRespNext, askFinishLoadingSuperblockPhase, finishLoadingSuperblockPhaseNext, askAskAgain, askAgainNext}
 use Rattle.loading.specs.Laws.Superblocks.{LoadingSuperblockOk, loading-superblock-facts, facts-loading-superblock, page-in-superblock-req-asked, asked-page-in-superblock-req, superblock-awaited-is, is-superblock-awaited, resp-awaited, resp-unawaited, FinishLoadingSuperblockPhaseAsked, finish-loading-superblock-phase-asked, asked-finish-loading-superblock-phase, finished-selects, ask-again-asked, asked-ask-again}
 use Rattle.refine.specs.Machine.LoadingSeen.{at-named, at-unnamed, outstanding-is, success-is, corruption-is, unasked-of, ended-none, ended-result}
-use Rattle.refine.specs.Machine.LoadingView.{two, ReadsDiffer, outstandingRead, readResult, loadingSuperblockOf, superblocksSeen, superblockIn, loadingOtherOf, otherSeen}
+use Rattle.refine.specs.Machine.LoadingView.{outstandingRead, readResult, loadingSuperblockOf, superblocksSeen, LoadingSuperblockMeets, superblockIn, loadingOtherOf, otherSeen}
 
 module _ (s : LoadingSuperblock) (y : Map SyncReqStatus) where
   abbrev reads : Two (Option ReqId)
@@ -62,10 +62,14 @@ module _ (s : LoadingSuperblock) (y : Map SyncReqStatus) where
         go true = refl
         go false = refl
 
-  -- Question 2: 000's invariant, and document 01's "the two superblock reads differ"
+  -- Question 2
 
-  pub superblock-inv : (g : Geometry) → loadingSuperblockOk g s ≡ true → InvLoadingSuperblock g (loadingSuperblockOf s y)
-  superblock-inv g e = record { success-read = no-read; success-wf = wf; corruption-read = no-corrupt-read }
+  pub superblock-meets : (g : Geometry) → loadingSuperblockOk g s ≡ true → LoadingSuperblockMeets g s y
+  superblock-meets g e =
+      record {
+        inv = record { success-read = no-read; success-wf = wf; corruption-read = no-corrupt-read };
+        reads-differ = λ id p q. f .reads-differ id (outstanding-is (s .first) id p) (outstanding-is (s .second) id q);
+      }
     where
       f : LoadingSuperblockOk g s
       f = loading-superblock-facts g s e
@@ -82,17 +86,13 @@ module _ (s : LoadingSuperblock) (y : Map SyncReqStatus) where
       no-corrupt-read false p = ap outstandingRead (corruption-is (s .first) p)
       no-corrupt-read true p = ap outstandingRead (corruption-is (s .second) p)
 
-  pub superblock-differ : (g : Geometry) → loadingSuperblockOk g s ≡ true → ReadsDiffer (loadingSuperblockOf s y .outstandingSuperblockReads)
-  superblock-differ g e id p q = loading-superblock-facts g s e .reads-differ id (outstanding-is (s .first) id p) (outstanding-is (s .second) id q)
-
-  pub superblock-ok : (g : Geometry) → InvLoadingSuperblock g (loadingSuperblockOf s y) → ReadsDiffer (loadingSuperblockOf s y .outstandingSuperblockReads)
-      → loadingSuperblockOk g s ≡ true
-  superblock-ok g h d =
+  pub meets-superblock : (g : Geometry) → LoadingSuperblockMeets g s y → loadingSuperblockOk g s ≡ true
+  meets-superblock g h =
       facts-loading-superblock g s
       (record {
-        first-wf = λ superblock e. h .success-wf false superblock (ap readResult e);
-        second-wf = λ superblock e. h .success-wf true superblock (ap readResult e);
-        reads-differ = λ id p q. d id (ap outstandingRead p) (ap outstandingRead q);
+        first-wf = λ superblock e. h .inv .success-wf false superblock (ap readResult e);
+        second-wf = λ superblock e. h .inv .success-wf true superblock (ap readResult e);
+        reads-differ = λ id p q. h .reads-differ id (ap outstandingRead p) (ap outstandingRead q);
       })
 
   -- PageInSuperblockReq
