@@ -1,10 +1,10 @@
 -- Loading the journal of the selected superblock: question 2's test of the record, and of each step its own questions and its effect; and
 -- where a piece's blocks lie in lent memory: the front's from block 0 on, the back's behind them.
-use Prim.Native.Nat.{ℕ, _*_}
+use Prim.Native.Nat.{ℕ}
 use mathlib.Core.Bool.{Bool, cond}
 use mathlib.Core.Option.{Option}
-use lib.Dec.{leb, eqb}
-use Rattle.laws.specs.Choice.{also, either, ask, andThen}
+use lib.Dec.{leb}
+use Rattle.laws.specs.Choice.{also, ask, andThen}
 use Rattle.layout.specs.declared.geometry.Geometry.{Geometry}
 use Rattle.interval.specs.declared.interval.JournalInterval.{JournalInterval}
 use Rattle.interval.specs.declared.answer.MaybeInterval.{MaybeInterval}
@@ -13,7 +13,6 @@ use Rattle.interval.specs.Answer.{maybeInterval}
 use Rattle.interval.specs.Interval.{interval}
 use Rattle.superblock.specs.declared.superblock.Superblock.{Superblock}
 use Rattle.superblock.specs.declared.disk_op.JournalRead.{JournalRead}
-use Rattle.superblock.specs.declared.disk_op.JournalRead.the-variants as read
 use Rattle.superblock.specs.Superblock.{SelectSuperblockIndex, SelectSuperblock, JournalFrontIntervalOfSuperblock, JournalBackIntervalOfSuperblock, wfSuperblock}
 use Rattle.loading.specs.declared.pieces.Piece.{Piece}
 use Rattle.loading.specs.declared.pieces.Piece.the-variants as piece
@@ -98,14 +97,6 @@ placeOf g s id =
     cond (pieceReads (s .front) id) (place 0 (frontBlocks g (s .superblock)))
     (cond (pieceReads (s .back) id) (place (frontBlocks g (s .superblock)) (backBlocks g (s .superblock)))
     (place 0 0))
-
--- 4 unless the bytes of a whole one that is awaited are as many as the piece's blocks have
-unfoldable pub takesBytes : Paged → ℕ → Bool
-takesBytes p length = either (eqb (p .len) 0) (eqb length (p .len * 4096))
-
-unfoldable pub askPageInJournalResp : Geometry → LoadingOther → ℕ → JournalRead → ℕ → ℕ
-askPageInJournalResp g s id read.Whole length = ask 4 (takesBytes (placeOf g s id) length)
-askPageInJournalResp g s id read.Damaged length = 0
 
 unfoldable pub pageInJournalRespNext : LoadingOther → ℕ → JournalRead → LoadingOther
 pageInJournalRespNext s id r =

@@ -13,7 +13,7 @@ use superblock::select_superblock;
 use superblock::select_superblock_index;
 ghost use mathlib.Core.Path.{_≡_};
 ghost use Rattle.interval.specs.Answer.{maybeInterval};
-ghost use Rattle.loading.specs.Other.{selectedOther, loadingOtherOk, piecesOk, frontBlocks, backBlocks, intervalAt, pieceAt, toPieces, askPageInJournalReq, pageInJournalReqInterval, pageInJournalReqNext, placeOf, takesBytes, askPageInJournalResp, pageInJournalRespNext, askFinishLoadingOtherPhase, loadedBlocks};
+ghost use Rattle.loading.specs.Other.{selectedOther, loadingOtherOk, piecesOk, frontBlocks, backBlocks, intervalAt, pieceAt, toPieces, askPageInJournalReq, pageInJournalReqInterval, pageInJournalReqNext, placeOf, pageInJournalRespNext, askFinishLoadingOtherPhase, loadedBlocks};
 
 pub struct LoadingOther {
     pub superblock: Superblock,
@@ -26,22 +26,6 @@ pub struct LoadingOther {
 pub struct Paged {
     pub place: u64,
     pub len: u64,
-}
-
-impl Paged {
-    // Does nobody await the bytes, or are they as many as the blocks have? Told by a quotient, so that no product can wrap.
-    fn takes(self, length: u64) -> bool
-        ensures { λ r. ⌜ r ≡ takesBytes self length ⌝ }
-    {
-        if self.len == 0 {
-            return true;
-        }
-        let blocks = length / Geometry::BLOCK_SIZE;
-        if length % Geometry::BLOCK_SIZE == 0 {
-            return blocks == self.len;
-        }
-        false
-    }
 }
 
 impl LoadingOther {
@@ -201,29 +185,6 @@ impl LoadingOther {
             };
         }
         Paged { place: 0, len: 0 }
-    }
-
-    // 4 unless a whole answer that is awaited brings as many bytes as the piece has.
-    pub fn ask_page_in_journal_resp(
-        self,
-        id: u64,
-        read: JournalRead,
-        length: u64,
-        g: Geometry,
-    ) -> u8
-        ensures { λ r. ⌜ r ≡ askPageInJournalResp g self id read length ⌝ }
-    {
-        match read {
-            JournalRead::Whole => {
-                let p = self.place_of(id, g);
-                let fits = p.takes(length);
-                if fits {
-                    return 0;
-                }
-                4
-            }
-            JournalRead::Damaged => 0,
-        }
     }
 
     // The piece that awaits the id is in, or unread again if the answer is damaged.

@@ -1,14 +1,12 @@
 -- Loading the journal: what each test of a piece tells, question 2's test as facts, what a yes to each step's questions tells, what an answer
 -- does by which piece awaits it, and how many blocks the pieces have; a law each way.
-use Prim.Native.Nat.{ℕ, _+_, _*_, _/_, _%_, _≤_, _<_}
+use Prim.Native.Nat.{ℕ, _+_, _≤_, _<_}
 use mathlib.Core.Bool.{true, false, not}
 use mathlib.Core.Path.{_≡_, refl, sym, _∙_, ap}
 use mathlib.Core.Option.{Option, none, some}
-use mathlib.Core.Logic.{⊎-elim}
 use native.Mathlib.Omega.{arith}
-use lib.Dec.{eqb}
-use borrow.Author.Tests.{leb-true, le-leb, eq-eqb, ne-eqb, eqb-true}
-use Rattle.laws.specs.Choice.{also, either, either-left, either-right, either-cases, eqb-same, ruin, false-true, not-so, split-le, split-bool, also-left, also-right, also-both, ask-yes, ask-holds, andThen-left, andThen-right, andThen-both}
+use borrow.Author.Tests.{leb-true, le-leb, eq-eqb, eqb-true}
+use Rattle.laws.specs.Choice.{also, ruin, false-true, not-so, split-bool, also-left, also-right, also-both, ask-yes, ask-holds, andThen-left, andThen-right, andThen-both}
 use Rattle.laws.specs.Sets.{none-some}
 use Rattle.layout.specs.declared.geometry.Geometry.{Geometry}
 use Rattle.interval.specs.declared.interval.JournalInterval.{JournalInterval}
@@ -17,15 +15,13 @@ use Rattle.interval.specs.Interval.{interval}
 use Rattle.interval.specs.Laws.{lenOf, parts-none, parts-straight, parts-wrapped, parts-cases, parts-fit}
 use Rattle.superblock.specs.declared.superblock.Superblock.{Superblock}
 use Rattle.superblock.specs.declared.disk_op.JournalRead.{JournalRead}
-use Rattle.superblock.specs.declared.disk_op.JournalRead.the-variants as read
 use Rattle.superblock.specs.Superblock.{JournalFrontIntervalOfSuperblock, JournalBackIntervalOfSuperblock}
 use Rattle.superblock.specs.Laws.{WFSuperblock, superblock-facts, facts-superblock}
 use Rattle.loading.specs.declared.pieces.Piece.{Piece}
 use Rattle.loading.specs.declared.pieces.Piece.the-variants as piece
 use Rattle.loading.specs.declared.other.LoadingOther.{LoadingOther}
-use Rattle.loading.specs.declared.other.Paged.{Paged}
 use Rattle.loading.specs.Pieces.{isThere, blocksOf, pieceInterval, pieceReads, pieceUnread, pieceLoaded, pieceReadsDiffer, pieceRead}
-use Rattle.loading.specs.Other.{frontOf, backOf, frontBlocks, backBlocks, piecesOk, loadingOtherOk, intervalAt, pieceAt, toPieces, askPageInJournalReq, intervalOf, pageInJournalReqInterval, place, placeOf, takesBytes, askPageInJournalResp, pageInJournalRespNext, askFinishLoadingOtherPhase}
+use Rattle.loading.specs.Other.{frontOf, backOf, frontBlocks, backBlocks, piecesOk, loadingOtherOk, intervalAt, pieceAt, toPieces, askPageInJournalReq, intervalOf, pageInJournalReqInterval, place, placeOf, pageInJournalRespNext, askFinishLoadingOtherPhase}
 use Rattle.loading.specs.Laws.Which.{which-asked, asked-which, not-true, true-not}
 
 -- A piece
@@ -249,47 +245,6 @@ place-in g s id w = go (awaiting s id)
     go (front h) = rw (front-place s id h g) (omega (arith, blocks-add g (s .superblock) w, w .len-in))
     go (back n h) = rw (back-place s id n h g) (omega (arith, blocks-add g (s .superblock) w, w .len-in))
     go (nobody n m) = rw (nobody-place s id n m g) (omega arith)
-
--- as many bytes as the blocks have, told by a quotient
-module _ (p : Paged) (length : ℕ) where
-  pub takes-none : p .len ≡ 0 → takesBytes p length ≡ true
-  unfolding takesBytes
-  takes-none h = either-left _ _ (eq-eqb (p .len) 0 h)
-
-  module _ (n : p .len ≡ 0 → ⊥) where
-    pub takes-quotient : length % 4096 ≡ 0 → eqb (length / 4096) (p .len) ≡ takesBytes p length
-    unfolding takesBytes either
-    takes-quotient h = simp (ne-eqb (p .len) 0 n) (eqb-same (length / 4096) (p .len) length (p .len * 4096) (λ e. omega arith) (λ e. omega arith))
-
-    pub takes-rest : (length % 4096 ≡ 0 → ⊥) → takesBytes p length ≡ false
-    unfolding takesBytes either
-    takes-rest h = let k : length ≡ p .len * 4096 → ⊥ = λ e. h (omega arith) in simp (ne-eqb (p .len) 0 n, ne-eqb length (p .len * 4096) k)
-
--- what a yes tells of a whole answer's bytes; a damaged one is asked nothing
-module _ (g : Geometry) (s : LoadingOther) (id length : ℕ) where
-  pub page-in-journal-resp-asked : askPageInJournalResp g s id read.Whole length ≡ 0 → 0 < placeOf g s id .len → length ≡ placeOf g s id .len * 4096
-  unfolding askPageInJournalResp takesBytes
-  page-in-journal-resp-asked e h =
-      ⊎-elim
-      (λ z. let k = eqb-true (placeOf g s id .len) 0 z in absurd (omega arith))
-      (λ z. eqb-true length (placeOf g s id .len * 4096) z)
-      (either-cases _ _ (ask-yes 4 _ (omega arith) e))
-
-  pub asked-page-in-journal-resp : (0 < placeOf g s id .len → length ≡ placeOf g s id .len * 4096) → askPageInJournalResp g s id read.Whole length ≡ 0
-  unfolding askPageInJournalResp takesBytes
-  asked-page-in-journal-resp f =
-      ask-holds 4 _
-      (split-le (placeOf g s id .len) 0
-      (λ l. either-left _ _ (eq-eqb (placeOf g s id .len) 0 (omega arith)))
-      (λ l. either-right _ _ (eq-eqb length (placeOf g s id .len * 4096) (f l))))
-
-  pub asked-damaged-journal : askPageInJournalResp g s id read.Damaged length ≡ 0
-  unfolding askPageInJournalResp
-  asked-damaged-journal = refl
-
-  pub asked-unawaited : (r : JournalRead) → placeOf g s id .len ≡ 0 → askPageInJournalResp g s id r length ≡ 0
-  asked-unawaited read.Whole e = asked-page-in-journal-resp (λ l. absurd (omega arith))
-  asked-unawaited read.Damaged e = asked-damaged-journal
 
 -- FinishLoadingOtherPhase
 

@@ -26,8 +26,8 @@ use Rattle.loading.specs.declared.pieces.Piece.the-variants as piece
 use Rattle.loading.specs.declared.other.LoadingOther.{LoadingOther}
 use Rattle.loading.specs.declared.other.Paged.{Paged}
 use Rattle.loading.specs.Which.{isSecond}
-use Rattle.loading.specs.Other.{frontBlocks, backBlocks, loadingOtherOk, toPieces, placeOf, askPageInJournalResp, pageInJournalRespNext}
-use Rattle.loading.specs.Laws.Other.{LoadingOtherOk, loading-other-facts, front-blocks-is, back-blocks-is, front-some, back-some, Awaiting, front, back, nobody, awaiting, front-place, front-next, back-place, back-next, nobody-place, nobody-next, page-in-journal-resp-asked, asked-page-in-journal-resp, asked-damaged-journal, asked-unawaited}
+use Rattle.loading.specs.Other.{frontBlocks, backBlocks, loadingOtherOk, toPieces, placeOf, pageInJournalRespNext}
+use Rattle.loading.specs.Laws.Other.{LoadingOtherOk, loading-other-facts, front-blocks-is, back-blocks-is, front-some, back-some, Awaiting, front, back, nobody, awaiting, front-place, front-next, back-place, back-next, nobody-place, nobody-next}
 use Rattle.refine.specs.Machine.LoadingView.{two, blocksIn, frontIn, backIn, awaitedRead, loadedPiece, loadingOtherOf, otherSeen, LoadingOtherMeets}
 use Rattle.refine.specs.Machine.LoadingSeen.{awaited-is, reading-read}
 use Rattle.refine.specs.Machine.LoadingOther.{meets-other-facts}
@@ -155,12 +155,11 @@ module _ (g : Geometry) (pieces : List ℕ) (s : LoadingOther) (y : Map SyncReqS
 
     -- a whole answer that is awaited: its bytes go to the piece's place
     pub page-in-journal-resp-sound : loadingOtherOk g s ≡ true → length pieces ≡ g .blocks * 4096 → 0 < placeOf g s id .len
-        → (bytes : List ℕ) → askPageInJournalResp g s id read.Whole (length bytes) ≡ 0
+        → (bytes : List ℕ) → length bytes ≡ placeOf g s id .len * 4096
         → PageInJournalResp⁺ (otherSeen g pieces s y) (otherSeen g (splice pieces (placeOf g s id .place * 4096) bytes) (pageInJournalRespNext s id read.Whole) y)
         (RespReadJournalOp id (some (blocksIn (placeOf g s id .len) bytes)))
-    page-in-journal-resp-sound k size some-block bytes e =
-        let w = len-waits some-block in
-        let l = page-in-journal-resp-asked g s id (length bytes) e some-block in (
+    page-in-journal-resp-sound k size some-block bytes l =
+        let w = len-waits some-block in (
           w .0,
           record {
             id = id;
@@ -176,11 +175,11 @@ module _ (g : Geometry) (pieces : List ℕ) (s : LoadingOther) (y : Map SyncReqS
         → (jr : JournalRange) (s′ : Variables) (h : PageInJournalResp⁺ (otherSeen g pieces s y) s′ (RespReadJournalOp id (some jr)))
         → ((v : JournalInterval) → journalIntervalOfSuperblock g (h .0) (s .superblock) ≡ some v → lengths jr ≡ replicate (v .len) 4096)
         → (0 < placeOf g s id .len)
-        × (askPageInJournalResp g s id read.Whole (length (flat jr)) ≡ 0)
+        × (length (flat jr) ≡ placeOf g s id .len * 4096)
         × (s′ ≡ otherSeen g (splice pieces (placeOf g s id .place * 4096) (flat jr)) (pageInJournalRespNext s id read.Whole) y)
     page-in-journal-resp-complete k size jr s′ h piece-size = (
       waits-len ok (h .0) waiting,
-      asked-page-in-journal-resp g s id (length (flat jr)) (λ l. sized-flat (placeOf g s id .len) jr sized),
+      sized-flat (placeOf g s id .len) jr sized,
       h .1 .next
           ∙ (λ i.
           Variables.LoadingOther
@@ -213,12 +212,11 @@ module _ (g : Geometry) (pieces : List ℕ) (s : LoadingOther) (y : Map SyncReqS
         let w = len-waits some-block in
         record { id = id; op = refl; which = w .0; waiting = w .1; next = ap Variables.LoadingOther (damaged-next (loading-other-facts g s k) (w .0) (w .1)) }
 
-    pub damaged-journal-complete : LoadingOtherMeets g pieces s y → (s′ : Variables) → DamagedJournal (otherSeen g pieces s y) s′ (RespReadJournalOp id none) → (n : ℕ)
+    pub damaged-journal-complete : LoadingOtherMeets g pieces s y → (s′ : Variables) → DamagedJournal (otherSeen g pieces s y) s′ (RespReadJournalOp id none)
         → (0 < placeOf g s id .len)
-        × (askPageInJournalResp g s id read.Damaged n ≡ 0)
         × (s′ ≡ otherSeen g pieces (pageInJournalRespNext s id read.Damaged) y)
-    damaged-journal-complete k s′ h n =
-        (waits-len ok (h .which) waiting, asked-damaged-journal g s id n, h .next ∙ sym (ap Variables.LoadingOther (damaged-next ok (h .which) waiting)))
+    damaged-journal-complete k s′ h =
+        (waits-len ok (h .which) waiting, h .next ∙ sym (ap Variables.LoadingOther (damaged-next ok (h .which) waiting)))
       where
         ok : LoadingOtherOk g s
         ok = meets-other-facts g pieces s y k
@@ -245,10 +243,9 @@ module _ (g : Geometry) (pieces : List ℕ) (s : LoadingOther) (y : Map SyncReqS
         nobody-does : (which : Bool) → waits which → ⊥
         nobody-does which h = let l = waits-len (loading-other-facts g s k) which h in omega arith
 
-    pub journal-unawaited-complete : (r : JournalRead) (journal : Option JournalRange) (s′ : Variables) → NoOp⁺ (otherSeen g pieces s y) s′ (RespReadJournalOp id journal) → (n : ℕ)
+    pub journal-unawaited-complete : (r : JournalRead) (journal : Option JournalRange) (s′ : Variables) → NoOp⁺ (otherSeen g pieces s y) s′ (RespReadJournalOp id journal)
         → (placeOf g s id .len ≡ 0)
-        × (askPageInJournalResp g s id r n ≡ 0)
         × (s′ ≡ otherSeen g pieces (pageInJournalRespNext s id r) y)
-    journal-unawaited-complete r journal s′ h n =
+    journal-unawaited-complete r journal s′ h =
         let u = nobody-waits (λ which w. h .unawaited (which, w)) r in
-        (u .0, asked-unawaited g s id n r (u .0), h .source .next ∙ sym (ap (λ (x : LoadingOther). otherSeen g pieces x y) (u .1)))
+        (u .0, h .source .next ∙ sym (ap (λ (x : LoadingOther). otherSeen g pieces x y) (u .1)))
