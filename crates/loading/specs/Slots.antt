@@ -3,7 +3,6 @@ use Prim.Native.Nat.{ℕ}
 use mathlib.Core.Bool.{Bool, true, false, cond, not}
 use lib.Dec.{eqb}
 use Rattle.layout.specs.declared.geometry.Geometry.{Geometry}
-use Rattle.superblock.specs.declared.superblock.Superblock.{Superblock}
 use Rattle.superblock.specs.declared.disk_op.MaybeSuperblock.{MaybeSuperblock}
 use Rattle.superblock.specs.declared.disk_op.MaybeSuperblock.the-variants as holds
 use Rattle.superblock.specs.declared.disk_op.SuperblockRead.{SuperblockRead}

@@ -1,14 +1,12 @@
 // Loading the superblocks: both slots are asked for and answered, a corrupt one can be asked for again, and once both have been read the
 // newer superblock is selected.
 use super::other::LoadingOther;
-use super::pieces::Piece;
 use super::slots::SlotRead;
 use super::which::ask_which;
 use layout::Geometry;
 use superblock::MaybeSuperblock;
 use superblock::SuperblockRead;
 ghost use mathlib.Core.Path.{_≡_};
-ghost use Rattle.loading.specs.Slots.{slotAwaits};
 ghost use Rattle.loading.specs.Superblocks.{initial, loadingSuperblockOk, slotAt, otherSlot, toSlot, askPageInSuperblockReq, pageInSuperblockReqNext, superblockAwaited, pageInSuperblockRespNext, askFinishLoadingSuperblockPhase, finishLoadingSuperblockPhaseNext, askAskAgain, askAgainNext};
 
 pub struct LoadingSuperblock {

@@ -1,10 +1,9 @@
 -- Loading the journal: what each test of a piece tells, question 2's test as facts, what a yes to each step's questions tells, what an answer
 -- does by which piece awaits it, and how many blocks the pieces have; a law each way.
 use Prim.Native.Nat.{ℕ, _+_, _≤_, _<_}
-use mathlib.Core.Bool.{Bool, true, false, cond, not}
+use mathlib.Core.Bool.{true, false, not}
 use mathlib.Core.Path.{_≡_, refl, sym, _∙_, ap}
 use mathlib.Core.Option.{Option, none, some}
-use mathlib.Core.Logic.{_⊎_, inl, inr}
 use native.Mathlib.Omega.{arith}
 use borrow.Author.Tests.{leb-true, le-leb, eq-eqb, eqb-true}
 use Rattle.laws.specs.Choice.{also, ruin, false-true, not-so, split-bool, also-left, also-right, also-both, ask-yes, ask-holds, andThen-left, andThen-right, andThen-both}
@@ -21,7 +20,6 @@ use Rattle.superblock.specs.Laws.{WFSuperblock, superblock-facts, facts-superbl
 use Rattle.loading.specs.declared.pieces.Piece.{Piece}
 use Rattle.loading.specs.declared.pieces.Piece.the-variants as piece
 use Rattle.loading.specs.declared.other.LoadingOther.{LoadingOther}
-use Rattle.loading.specs.declared.other.Paged.{Paged}
 use Rattle.loading.specs.Pieces.{isThere, blocksOf, pieceInterval, pieceReads, pieceUnread, pieceLoaded, pieceReadsDiffer, pieceRead}
 use Rattle.loading.specs.Other.{frontOf, backOf, frontBlocks, backBlocks, piecesOk, loadingOtherOk, intervalAt, pieceAt, toPieces, askPageInJournalReq, intervalOf, pageInJournalReqInterval, place, placeOf, pageInJournalRespNext, askFinishLoadingOtherPhase}
 use Rattle.loading.specs.Laws.Which.{which-asked, asked-which, not-true, true-not}
@@ -238,6 +236,15 @@ module _ (s : LoadingOther) (id : ℕ) where
     pub nobody-next : (r : JournalRead) → pageInJournalRespNext s id r ≡ s
     unfolding pageInJournalRespNext
     nobody-next r = simp (not-reading (s .front) n, not-reading (s .back) m)
+
+-- the place lies within memory of N blocks
+pub place-in : (g : Geometry) (s : LoadingOther) (id : ℕ) → WFSuperblock g (s .superblock) → placeOf g s id .place + placeOf g s id .len ≤ g .blocks
+place-in g s id w = go (awaiting s id)
+  where
+    go : Awaiting s id → placeOf g s id .place + placeOf g s id .len ≤ g .blocks
+    go (front h) = rw (front-place s id h g) (omega (arith, blocks-add g (s .superblock) w, w .len-in))
+    go (back n h) = rw (back-place s id n h g) (omega (arith, blocks-add g (s .superblock) w, w .len-in))
+    go (nobody n m) = rw (nobody-place s id n m g) (omega arith)
 
 -- FinishLoadingOtherPhase
 

@@ -7,17 +7,15 @@ use mathlib.Core.Path.{_≡_, refl, sym, _∙_, ap}
 use mathlib.Core.List.{List}
 use mathlib.Core.Option.{Option, none, some}
 use mathlib.Core.Logic.{_⊎_, inl, inr}
-use Rattle.laws.specs.Choice.{ruin, split-bool, true-false, not-so}
+use Rattle.laws.specs.Choice.{split-bool, true-false, not-so}
 use Rattle.laws.specs.Sets.{Map, no-keys, Two, at, put, put-at}
 use Rattle.layout.specs.declared.geometry.Geometry.{Geometry}
 use Rattle.superblock.specs.declared.superblock.Superblock.{Superblock}
 use Rattle.superblock.specs.declared.disk_op.SuperblockRead.{SuperblockRead}
-use Rattle.superblock.specs.declared.disk_op.SuperblockRead.the-variants as read
-use Rattle.superblock.specs.Superblock.{wfSuperblock}
 use Rattle.superblock.specs.Laws.{WFSuperblock}
 use Rattle.source.specs.JournalDisk.{ReqId, DiskOp, ReqReadSuperblockOp, RespReadSuperblockOp, NoDiskOp}
 use Rattle.source.specs.JournalCache as M
-use Rattle.source.specs.JournalCache.{SyncReqStatus, SuperblockReadResult, SuperblockSuccess, SuperblockUnfinished, SuperblockCorruption, Variables, LoadingSuperblockVariables, superblockRead, PageInSuperblockResp, FinishLoadingSuperblockPhase, InvLoadingSuperblock}
+use Rattle.source.specs.JournalCache.{SyncReqStatus, SuperblockReadResult, SuperblockSuccess, SuperblockUnfinished, SuperblockCorruption, Variables, superblockRead, PageInSuperblockResp, FinishLoadingSuperblockPhase}
 use Rattle.source.specs.Departures.{NoOp⁺, PageInSuperblockReq⁺, AskAgain}
 use Rattle.loading.specs.declared.slots.SlotRead.{SlotRead}
 use Rattle.loading.specs.declared.slots.SlotRead.the-variants as slot
@@ -28,59 +26,8 @@ use Rattle.loading.specs.Slots.{slotRead}
 use Rattle.loading.specs.Other.{selectedOther}
 use Rattle.loading.specs.Superblocks.{slots, initial, loadingSuperblockOk, slotAt, otherSlot, toSlot, askPageInSuperblockReq, pageInSuperblockReqNext, superblockAwaited, pageInSuperblockRespNext, askFinishLoadingSuperblockPhase, finishLoadingSuperblockPhaseNext, askAskAgain, askAgainNext}
 use Rattle.loading.specs.Laws.Superblocks.{LoadingSuperblockOk, loading-superblock-facts, facts-loading-superblock, page-in-superblock-req-asked, asked-page-in-superblock-req, superblock-awaited-is, is-superblock-awaited, resp-awaited, resp-unawaited, FinishLoadingSuperblockPhaseAsked, finish-loading-superblock-phase-asked, asked-finish-loading-superblock-phase, finished-selects, ask-again-asked, asked-ask-again}
-use Rattle.refine.specs.Machine.LoadingView.{two, ReadsDiffer, outstandingRead, readResult, loadingSuperblockOf, superblocksSeen, superblockIn, loadingOtherOf, otherSeen}
-
--- What the view tells of a slot
-
-outstanding-is : (r : SlotRead) (id : ReqId) → outstandingRead r ≡ some id → r ≡ slot.Awaited id
-outstanding-is slot.Unasked id e = ruin (cc)
-outstanding-is (slot.Awaited k) id e = cc
-outstanding-is (slot.Success superblock) id e = ruin (cc)
-outstanding-is slot.Corruption id e = ruin (cc)
-
-success-is : (r : SlotRead) (superblock : Superblock) → readResult r ≡ SuperblockSuccess superblock → r ≡ slot.Success superblock
-success-is slot.Unasked superblock e = ruin (cc)
-success-is (slot.Awaited id) superblock e = ruin (cc)
-success-is (slot.Success other) superblock e = cc
-success-is slot.Corruption superblock e = ruin (cc)
-
-corruption-is : (r : SlotRead) → readResult r ≡ SuperblockCorruption → r ≡ slot.Corruption
-corruption-is slot.Unasked e = ruin (cc)
-corruption-is (slot.Awaited id) e = ruin (cc)
-corruption-is (slot.Success superblock) e = ruin (cc)
-corruption-is slot.Corruption e = refl
-
-unasked-of : (r : SlotRead) → outstandingRead r ≡ none → readResult r ≡ SuperblockUnfinished → r ≡ slot.Unasked
-unasked-of slot.Unasked p q = refl
-unasked-of (slot.Awaited id) p q = ruin (cc)
-unasked-of (slot.Success superblock) p q = ruin (cc)
-unasked-of slot.Corruption p q = ruin (cc)
-
--- how a read ends
-ended-none : (g : Geometry) (r : SuperblockRead) → outstandingRead (slotRead g r) ≡ none
-ended-none g (read.Whole superblock) = go (wfSuperblock g superblock)
-  where
-    go : (b : Bool) → outstandingRead (cond b (slot.Success superblock) slot.Corruption) ≡ none
-    go true = refl
-    go false = refl
-ended-none g read.Damaged = refl
-
-ended-result : (g : Geometry) (r : SuperblockRead) → readResult (slotRead g r) ≡ superblockRead g (superblockIn r)
-ended-result g (read.Whole superblock) = go (wfSuperblock g superblock)
-  where
-    go : (b : Bool) → readResult (cond b (slot.Success superblock) slot.Corruption) ≡ cond b (SuperblockSuccess superblock) SuperblockCorruption
-    go true = refl
-    go false = refl
-ended-result g read.Damaged = refl
-
--- a pair's place by a number, and the other
-at-named : {A B : Type 0} (f : A → B) (a b : A) (w : Bool) → at (two (f a) (f b)) w ≡ f (cond w b a)
-at-named f a b true = refl
-at-named f a b false = refl
-
-at-unnamed : {A B : Type 0} (f : A → B) (a b : A) (w : Bool) → at (two (f a) (f b)) (not w) ≡ f (cond w a b)
-at-unnamed f a b true = refl
-at-unnamed f a b false = refl
+use Rattle.refine.specs.Machine.LoadingSeen.{at-named, at-unnamed, outstanding-is, success-is, corruption-is, unasked-of, ended-none, ended-result}
+use Rattle.refine.specs.Machine.LoadingView.{outstandingRead, readResult, loadingSuperblockOf, superblocksSeen, LoadingSuperblockMeets, superblockIn, loadingOtherOf, otherSeen}
 
 module _ (s : LoadingSuperblock) (y : Map SyncReqStatus) where
   abbrev reads : Two (Option ReqId)
@@ -115,10 +62,14 @@ module _ (s : LoadingSuperblock) (y : Map SyncReqStatus) where
         go true = refl
         go false = refl
 
-  -- Question 2: 000's invariant, and document 01's "the two superblock reads differ"
+  -- Question 2
 
-  pub superblock-inv : (g : Geometry) → loadingSuperblockOk g s ≡ true → InvLoadingSuperblock g (loadingSuperblockOf s y)
-  superblock-inv g e = record { success-read = no-read; success-wf = wf; corruption-read = no-corrupt-read }
+  pub superblock-meets : (g : Geometry) → loadingSuperblockOk g s ≡ true → LoadingSuperblockMeets g s y
+  superblock-meets g e =
+      record {
+        inv = record { success-read = no-read; success-wf = wf; corruption-read = no-corrupt-read };
+        reads-differ = λ id p q. f .reads-differ id (outstanding-is (s .first) id p) (outstanding-is (s .second) id q);
+      }
     where
       f : LoadingSuperblockOk g s
       f = loading-superblock-facts g s e
@@ -135,17 +86,13 @@ module _ (s : LoadingSuperblock) (y : Map SyncReqStatus) where
       no-corrupt-read false p = ap outstandingRead (corruption-is (s .first) p)
       no-corrupt-read true p = ap outstandingRead (corruption-is (s .second) p)
 
-  pub superblock-differ : (g : Geometry) → loadingSuperblockOk g s ≡ true → ReadsDiffer (loadingSuperblockOf s y .outstandingSuperblockReads)
-  superblock-differ g e id p q = loading-superblock-facts g s e .reads-differ id (outstanding-is (s .first) id p) (outstanding-is (s .second) id q)
-
-  pub superblock-ok : (g : Geometry) → InvLoadingSuperblock g (loadingSuperblockOf s y) → ReadsDiffer (loadingSuperblockOf s y .outstandingSuperblockReads)
-      → loadingSuperblockOk g s ≡ true
-  superblock-ok g h d =
+  pub meets-superblock : (g : Geometry) → LoadingSuperblockMeets g s y → loadingSuperblockOk g s ≡ true
+  meets-superblock g h =
       facts-loading-superblock g s
       (record {
-        first-wf = λ superblock e. h .success-wf false superblock (ap readResult e);
-        second-wf = λ superblock e. h .success-wf true superblock (ap readResult e);
-        reads-differ = λ id p q. d id (ap outstandingRead p) (ap outstandingRead q);
+        first-wf = λ superblock e. h .inv .success-wf false superblock (ap readResult e);
+        second-wf = λ superblock e. h .inv .success-wf true superblock (ap readResult e);
+        reads-differ = λ id p q. h .reads-differ id (ap outstandingRead p) (ap outstandingRead q);
       })
 
   -- PageInSuperblockReq

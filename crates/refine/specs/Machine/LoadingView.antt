@@ -1,6 +1,6 @@
 -- The machine's two loading kinds as 000's states. The sync requests come from elsewhere; the blocks of pieces lie in lent memory, the front's
 -- first, the back's behind them.
-use Prim.Native.Nat.{ℕ, _*_}
+use Prim.Native.Nat.{ℕ, _*_, _≤_}
 use mathlib.Core.Bool.{true, false}
 use mathlib.Core.Path.{_≡_}
 use mathlib.Core.List.{List}
@@ -12,11 +12,9 @@ use Rattle.layout.specs.declared.geometry.Geometry.{Geometry}
 use Rattle.superblock.specs.declared.superblock.Superblock.{Superblock}
 use Rattle.superblock.specs.declared.disk_op.SuperblockRead.{SuperblockRead}
 use Rattle.superblock.specs.declared.disk_op.SuperblockRead.the-variants as superblockRead
-use Rattle.superblock.specs.declared.disk_op.JournalRead.{JournalRead}
-use Rattle.superblock.specs.declared.disk_op.JournalRead.the-variants as journalRead
 use Rattle.codec.specs.Codec.{JournalRange}
 use Rattle.source.specs.JournalDisk.{ReqId}
-use Rattle.source.specs.MachineState.{SyncReqStatus, SuperblockReadResult, SuperblockSuccess, SuperblockUnfinished, SuperblockCorruption, LoadingOtherVariables, LoadingSuperblockVariables, Variables}
+use Rattle.source.specs.JournalCache.{SyncReqStatus, SuperblockReadResult, SuperblockSuccess, SuperblockUnfinished, SuperblockCorruption, LoadingOtherVariables, LoadingSuperblockVariables, Variables, InvLoadingOther, InvLoadingSuperblock}
 use Rattle.loading.specs.declared.slots.SlotRead.{SlotRead}
 use Rattle.loading.specs.declared.slots.SlotRead.the-variants as slot
 use Rattle.loading.specs.declared.superblocks.LoadingSuperblock.{LoadingSuperblock}
@@ -58,6 +56,11 @@ loadingSuperblockOf s syncReqs =
 abbrev pub superblocksSeen : LoadingSuperblock → Map SyncReqStatus → Variables
 superblocksSeen s syncReqs = Variables.LoadingSuperblock (loadingSuperblockOf s syncReqs)
 
+-- question 2 of it, but for the sync requests: 000's invariant, and that the two reads differ
+pub record LoadingSuperblockMeets (g : Geometry) (s : LoadingSuperblock) (syncReqs : Map SyncReqStatus) : Type 0 where
+  pub inv : InvLoadingSuperblock g (loadingSuperblockOf s syncReqs)
+  pub reads-differ : ReadsDiffer (loadingSuperblockOf s syncReqs .outstandingSuperblockReads)
+
 -- what an answer brings
 abbrev pub superblockIn : SuperblockRead → Option Superblock
 superblockIn (superblockRead.Whole superblock) = some superblock
@@ -98,7 +101,9 @@ loadingOtherOf g pieces s syncReqs =
 abbrev pub otherSeen : Geometry → List ℕ → LoadingOther → Map SyncReqStatus → Variables
 otherSeen g pieces s syncReqs = Variables.LoadingOther (loadingOtherOf g pieces s syncReqs)
 
--- what an answer brings, the blocks being those of lent bytes
-abbrev pub journalIn : JournalRead → JournalRange → Option JournalRange
-journalIn journalRead.Whole jr = some jr
-journalIn journalRead.Damaged jr = none
+-- question 2 of it, but for the sync requests: 000's invariant, that the two reads differ, and what the record adds. That no read is awaited for a
+-- piece already in is met by the type; that a piece has its interval's length by lent memory's.
+pub record LoadingOtherMeets (g : Geometry) (pieces : List ℕ) (s : LoadingOther) (syncReqs : Map SyncReqStatus) : Type 0 where
+  pub inv : InvLoadingOther g (loadingOtherOf g pieces s syncReqs)
+  pub reads-differ : ReadsDiffer (loadingOtherOf g pieces s syncReqs .journalReads)
+  pub which-in : s .whichSuperblock ≤ 1

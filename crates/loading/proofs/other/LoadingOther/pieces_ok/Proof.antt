@@ -1,5 +1,5 @@
 use Rattle.loading.specs.Other.{piecesOk}
-use Rattle.laws.specs.Choice.{tests, also}
+use Rattle.laws.specs.Choice.{also}
 use borrow.Author.Needs.{needs}
 use Rattle.loading.proofs.other.LoadingOther.pieces_ok.Statement.{statement}
 use Rattle.loading.proofs.other.LoadingOther.pieces_ok.Tie as tie
