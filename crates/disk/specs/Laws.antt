@@ -5,3 +5,4 @@ pub mod Questions
 pub mod Receive
 pub mod Acknowledge
 pub mod Landing
+pub mod Memory

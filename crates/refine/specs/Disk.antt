@@ -3,3 +3,4 @@ pub mod View
 pub mod Meets
 pub mod Calls
 pub mod SuperblockReads
+pub mod JournalReads
