@@ -5,7 +5,6 @@ use mathlib.Core.Bool.{Bool, false, cond}
 use lib.Dec.{leb, eqb}
 use Rattle.laws.specs.Choice.{ask}
 use Rattle.superblock.specs.declared.disk_op.MaybeSuperblock.{MaybeSuperblock}
-use Rattle.superblock.specs.declared.superblock.Superblock.{Superblock}
 use Rattle.tables.specs.declared.id_table.IdTable.{IdTable}
 use Rattle.disk.specs.declared.slots.Slots.{Slots}
 use Rattle.disk.specs.declared.slots.SuperblockReads.{SuperblockReads}

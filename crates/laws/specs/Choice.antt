@@ -2,7 +2,7 @@
 -- tests and the first no among questions, with the laws that take them apart and put them together, and the case of each test on
 -- numbers. Assumes nothing.
 use Prim.Native.Nat.{ℕ, suc, _+_, _-_, _≤_, _<_}
-use mathlib.Core.Bool.{Bool, true, false, cond, _&&_}
+use mathlib.Core.Bool.{Bool, true, false, cond, _&&_, not}
 use mathlib.Core.Path.{_≡_, refl, sym, _∙_, ap}
 use mathlib.Core.Logic.{_⊎_, inl, inr}
 use mathlib.Core.Option.{none, some}
@@ -112,6 +112,16 @@ pub either-cases : (a b : Bool) → either a b ≡ true → (a ≡ true) ⊎ (b 
 unfolding either
 either-cases true b e = inl refl
 either-cases false b e = inr e
+
+pub neither-left : (a b : Bool) → either a b ≡ false → a ≡ false
+unfolding either
+neither-left true b e = e
+neither-left false b e = refl
+
+pub neither-right : (a b : Bool) → either a b ≡ false → b ≡ false
+unfolding either
+neither-right true b e = true-false e
+neither-right false b e = e
 
 pub either-neither : (a b : Bool) → a ≡ false → b ≡ false → either a b ≡ false
 unfolding either
@@ -244,6 +254,11 @@ split-bool false f g = g refl
 pub not-so : (b : Bool) → (b ≡ true → ⊥) → b ≡ false
 not-so true h = absurd (h refl)
 not-so false h = refl
+
+-- the other answer of a test
+pub not-true : (b : Bool) → not b ≡ true → b ≡ false
+not-true true e = false-true e
+not-true false e = refl
 
 -- an option that is given where a test holds
 pub cond-some {ℓ} : {A : Type ℓ} (b : Bool) (x y : A) → cond b (some x) none ≡ some y → (b ≡ true) × (x ≡ y)

@@ -89,6 +89,10 @@ abbrev pub put : {A : Type 0} → Two A → Bool → A → Two A
 put t false a = record { first = a; second = t .second }
 put t true a = record { first = t .first; second = a }
 
+-- the same done to both
+abbrev pub eachOf : {A B : Type 0} → (A → B) → Two A → Two B
+eachOf f t = record { first = f (t .first); second = f (t .second) }
+
 -- a key's own place, and every other
 pub join-here : (s : Ids) (k : ℕ) → join s k k ≡ true
 join-here s k = ap (λ (b : Bool). cond b true (s k)) (eq-eqb k k refl)
@@ -145,6 +149,15 @@ module _ {A : Type 0} where
 
   pub two-same : (t u : Two A) → ((w : Bool) → at t w ≡ at u w) → t ≡ u
   two-same t u f = λ i. record { first = f false i; second = f true i }
+
+module _ {A B : Type 0} (f : A → B) where
+  pub at-each : (t : Two A) (w : Bool) → at (eachOf f t) w ≡ f (at t w)
+  at-each t true = refl
+  at-each t false = refl
+
+  pub each-put : (t : Two A) (w : Bool) (a : A) → eachOf f (put t w a) ≡ put (eachOf f t) w (f a)
+  each-put t true a = refl
+  each-put t false a = refl
 
 -- a number's own place in a list's set, and every other
 pub idsOf-here : (k : ℕ) (ks : List ℕ) → idsOf (k ∷ ks) k ≡ true

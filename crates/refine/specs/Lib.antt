@@ -1,1 +1,2 @@
+pub mod Disk
 pub mod Machine

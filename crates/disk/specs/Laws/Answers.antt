@@ -5,7 +5,7 @@ use mathlib.Core.Path.{_≡_, refl, sym, _∙_, ap}
 use mathlib.Core.List.{List}
 use mathlib.Core.Logic.{⊎-elim}
 use lib.Dec.{eqb}
-use Rattle.laws.specs.Choice.{andThen, andThen-first, andThen-done, unless, unless-kept, unless-done, refused-said, asked-yes, asked-either, ruin}
+use Rattle.laws.specs.Choice.{andThen, andThen-first, andThen-done, unless, unless-kept, unless-done, refused-said, asked-yes, asked-no, asked-either, ruin}
 use Rattle.interval.specs.declared.interval.JournalInterval.{JournalInterval}
 use Rattle.superblock.specs.declared.disk_op.SuperblockRead.{SuperblockRead}
 use Rattle.superblock.specs.declared.disk_op.JournalRead.{JournalRead}
@@ -74,7 +74,52 @@ module _ (k q r : ℕ) (e : k ≡ q) where
   pub kept-next : (x old new : List ℕ) → k ≡ 0 → x ≡ unless r old new → x ≡ unless (andThen q r) old new
   kept-next x old new h p = p ∙ ap (λ (n : ℕ). unless n old new) (next-is h)
 
--- the answer of a journal read tells the number: refused, and read, with the interval
+-- the answer tells the number: done, and refused
+module _ (q : ℕ) (next d : Disk) where
+  pub done-asked : answered q next d .answer ≡ answer.Done → q ≡ 0
+  unfolding answered
+  done-asked e =
+      ⊎-elim
+      (λ y. y .0)
+      (λ n. let p = n .1 in ruin (cc))
+      (asked-either q (record { answer = answer.Done; disk = next }) (refused d q) (answered q next d) refl)
+
+  pub asked-done : q ≡ 0 → answered q next d ≡ record { answer = answer.Done; disk = next }
+  unfolding answered
+  asked-done h = asked-yes q (record { answer = answer.Done; disk = next }) (refused d q) h
+
+  pub asked-refused : (q ≡ 0 → ⊥) → answered q next d ≡ refused d q
+  unfolding answered
+  asked-refused h = asked-no q (record { answer = answer.Done; disk = next }) (refused d q) h
+
+  pub refused-asked : (n : ℕ) → answered q next d .answer ≡ answer.Refused n → q ≡ 0 → ⊥
+  refused-asked n e h = let p = asked-done h in ruin (cc)
+
+  pub refused-same : (n : ℕ) → answered q next d .answer ≡ answer.Refused n → answered q next d .disk ≡ d
+  refused-same n e = ap (λ (r : DiskStepped). r .disk) (asked-refused (refused-asked n e))
+
+module _ (q : ℕ) (v : SuperblockRead) (next d : Disk) where
+  pub read-asked : (u : SuperblockRead) → superblockAnswered q v next d .answer ≡ superblockAnswer.Read u → (q ≡ 0) × (u ≡ v)
+  unfolding superblockAnswered
+  read-asked u e =
+      ⊎-elim
+      (λ y. let p = y .1 in (y .0, cc))
+      (λ n. let p = n .1 in ruin (cc))
+      (asked-either q (record { answer = superblockAnswer.Read v; disk = next }) (superblockRefused d q) (superblockAnswered q v next d) refl)
+
+  pub asked-read : q ≡ 0 → superblockAnswered q v next d ≡ record { answer = superblockAnswer.Read v; disk = next }
+  unfolding superblockAnswered
+  asked-read h = asked-yes q (record { answer = superblockAnswer.Read v; disk = next }) (superblockRefused d q) h
+
+  pub superblock-same : (n : ℕ) → superblockAnswered q v next d .answer ≡ superblockAnswer.Refused n → superblockAnswered q v next d .disk ≡ d
+  unfolding superblockAnswered
+  superblock-same n e =
+      ⊎-elim
+      (λ y. let p = y .1 in ruin (cc))
+      (λ x. ap (λ (r : SuperblockAcked). r .disk) (sym (x .1)))
+      (asked-either q (record { answer = superblockAnswer.Read v; disk = next }) (superblockRefused d q) (superblockAnswered q v next d) refl)
+
+-- the answer of a journal read tells it too, and the interval
 module _ (q : ℕ) (v : JournalInterval) (next d : Disk) (r : JournalAcked) (e : r ≡ journalAnswered q v next d) where
   pub journal-refused : (n : ℕ) → r .answer ≡ journalAnswer.Refused n → q ≡ 0 → ⊥
   unfolding journalAnswered
@@ -95,6 +140,16 @@ module _ (q : ℕ) (v : JournalInterval) (next d : Disk) (r : JournalAcked) (e :
   copied u whole x blocks out h p =
       let k = journal-read u h in
       p ∙ ap (λ (w : JournalInterval). readOut whole w blocks out) (k .1) ∙ sym (unless-done q out (readOut whole v blocks out) (k .0))
+
+pub asked-journal-read : (q : ℕ) (v : JournalInterval) (next d : Disk) → q ≡ 0 → journalAnswered q v next d ≡ record { answer = journalAnswer.Read v; disk = next }
+unfolding journalAnswered
+asked-journal-read q v next d h = asked-yes q (record { answer = journalAnswer.Read v; disk = next }) (journalRefused d q) h
+
+pub journal-same : (q : ℕ) (v : JournalInterval) (next d : Disk) (n : ℕ) → journalAnswered q v next d .answer ≡ journalAnswer.Refused n → journalAnswered q v next d .disk ≡ d
+unfolding journalAnswered
+journal-same q v next d n e =
+    ap (λ (r : JournalAcked). r .disk)
+    (asked-no q (record { answer = journalAnswer.Read v; disk = next }) (journalRefused d q) (journal-refused q v next d (journalAnswered q v next d) refl n e))
 
 -- the same as an operation's
 stepped-as : (q : ℕ) (v : JournalInterval) (next d : Disk) → asStepped (journalAnswered q v next d) ≡ answered q next d
