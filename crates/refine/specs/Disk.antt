@@ -5,3 +5,4 @@ pub mod Calls
 pub mod SuperblockReads
 pub mod JournalReads
 pub mod SuperblockWrites
+pub mod JournalWrites
