@@ -4,3 +4,5 @@ pub mod Meets
 pub mod Calls
 pub mod SuperblockReads
 pub mod JournalReads
+pub mod SuperblockWrites
+pub mod JournalWrites

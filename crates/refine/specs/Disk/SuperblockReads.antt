@@ -184,7 +184,7 @@ module _ (g : Geometry) (d : Disk) (which id : ℕ) (blocks marks : List ℕ) wh
       by false y h = ruin (cc)
 
   -- the slot that the source reads
-  holds-of : (v : Superblock) → some v ≡ at (diskOf g blocks marks d .superblocks) (bitOf which) → slotAt (d .slots) which ≡ slot.Holds v
+  pub holds-of : (v : Superblock) → some v ≡ at (diskOf g blocks marks d .superblocks) (bitOf which) → slotAt (d .slots) which ≡ slot.Holds v
   holds-of v e = go (slotAt (d .slots) which) (slot-view ∙ sym e)
     where
       go : (x : MaybeSuperblock) → superblockIn x ≡ some v → x ≡ slot.Holds v
