@@ -9,7 +9,7 @@ use native.Mathlib.Omega.{arith}
 use lib.Dec.{eqb}
 use lib.ListN.{length}
 use borrow.Author.Tests.{eqb-true}
-use Rattle.laws.specs.Choice.{also, also-left, also-right, also-both, ruin, true-false, false-true, split-eq}
+use Rattle.laws.specs.Choice.{also-left, also-right, also-both, ruin, true-false, split-eq}
 use Rattle.laws.specs.Fold.{every}
 use Rattle.laws.specs.Sets.{Ids, no-ids, join, leave, Map, no-keys, bind, unbind, each, isKey, keys, AtMost, idsOf, mapOf, Distinct, none-some, bind-here, bind-there, unbind-here, unbind-there, out-head, out-tail, out-right, distinct-last}
 
@@ -104,6 +104,10 @@ module _ {A : Type 0} where
       go : (x : ℕ) → unbind (bind m k a) k x ≡ m x
       go x = split-eq k x (λ n. ap (unbind (bind m k a) k) (sym n) ∙ unbind-here (bind m k a) k ∙ sym e ∙ ap m n) (λ n. unbind-there (bind m k a) k x n ∙ bind-there m k x a n)
 
+  -- a key that isn't there, unbound
+  pub unbind-same : (m : Map A) (k : ℕ) → m k ≡ none → unbind m k ≡ m
+  unbind-same m k e = λ z x. split-eq k x (λ q. ap (unbind m k) (sym q) ∙ unbind-here m k ∙ sym e ∙ ap m q) (λ n. unbind-there m k x n) z
+
   pub bind-unbind : (k : ℕ) (a : A) → unbind (bind no-keys k a) k ≡ no-keys
   bind-unbind k a = unbind-bind no-keys k a refl
 
@@ -129,6 +133,21 @@ module _ {A B : Type 0} (f : A → B) where
       go : (b : Bool) (o : Option A) → Option·map f (cond b none o) ≡ cond b none (Option·map f o)
       go true o = refl
       go false o = refl
+
+  -- a key of the changed map, and one that isn't
+  pub each-none : (m : Map A) (k : ℕ) → each f m k ≡ none → m k ≡ none
+  each-none m k = go (m k)
+    where
+      go : (o : Option A) → Option·map f o ≡ none → o ≡ none
+      go none e = refl
+      go (some a) e = ruin (cc)
+
+  pub each-some : (m : Map A) (k : ℕ) (b : B) → each f m k ≡ some b → (a : A) × (m k ≡ some a) × (f a ≡ b)
+  each-some m k b = go (m k)
+    where
+      go : (o : Option A) → Option·map f o ≡ some b → (a : A) × (o ≡ some a) × (f a ≡ b)
+      go none e = ruin (cc)
+      go (some a) e = (a, refl, cc)
 
   -- two changes in a row where the second, seen after f, is g
   pub each-through : (h : A → A) (g : B → B) → ((a : A) → f (h a) ≡ g (f a)) → (m : Map A) → each f (each h m) ≡ each g (each f m)
@@ -167,6 +186,13 @@ module _ {A : Type 0} where
   mapOf-snoc (i ∷ ks) (u ∷ vs) k v h e =
       ap (λ (m : Map A). bind m i u) (mapOf-snoc ks vs k v (omega arith) (out-tail i k ks e))
       ∙ bind-comm (mapOf ks vs) k i v u (λ q. out-head i k ks e (sym q))
+
+  pub mapOf-last : (xs : List ℕ) (us : List A) (k : ℕ) (u : A) → length xs ≡ length us → Distinct (xs ++ (k ∷ []))
+      → mapOf xs us ≡ unbind (mapOf (xs ++ (k ∷ [])) (us ++ (u ∷ []))) k
+  mapOf-last xs us k u h d =
+      let e = distinct-last xs k d in
+      sym (unbind-bind (mapOf xs us) k u (mapOf-none xs us k e))
+      ∙ ap (λ (m : Map A). unbind m k) (sym (mapOf-snoc xs us k u h e))
 
   pub mapOf-swap : (xs ys : List ℕ) (us vs : List A) (k l : ℕ) (u v : A) → length xs ≡ length us → length ys ≡ length vs
       → Distinct (xs ++ k ∷ (ys ++ (l ∷ [])))

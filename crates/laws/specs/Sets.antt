@@ -221,10 +221,6 @@ not-second : (a b : Bool) → cond a true b ≡ false → b ≡ false
 not-second true b e = true-false e
 not-second false b e = e
 
--- a number that stands in a list and one that doesn't
-pub ids-differ : (xs : List ℕ) (a b : ℕ) → idsOf xs a ≡ true → idsOf xs b ≡ false → a ≡ b → ⊥
-ids-differ xs a b p q e = true-false (sym p ∙ ap (idsOf xs) e ∙ q)
-
 -- the set of two lists, and of a list with one number more at its end
 pub idsOf-append : (xs ys : List ℕ) (i : ℕ) → idsOf (xs ++ ys) i ≡ cond (idsOf xs i) true (idsOf ys i)
 unfolding idsOf
@@ -246,7 +242,7 @@ idsOf-snoc xs k = λ j i. (idsOf-append xs (k ∷ []) i ∙ go (idsOf xs i) (eqb
     go false true = refl
     go false false = refl
 
--- a number stands in neither part, and in none of two parts
+-- a number that stands in neither part
 pub out-append : (xs ys : List ℕ) (i : ℕ) → idsOf xs i ≡ false → idsOf ys i ≡ false → idsOf (xs ++ ys) i ≡ false
 out-append xs ys i p q = idsOf-append xs ys i ∙ neither (idsOf xs i) (idsOf ys i) p q
 
@@ -300,6 +296,17 @@ pub few-joined : (n : ℕ) (xs : List ℕ) (k : ℕ) → Distinct xs → idsOf x
 unfolding idsOf Distinct
 few-joined n xs k d e m = distinct-few n (k ∷ xs) (e, d) m
 
+-- a part of few is few
+pub few-within : (n : ℕ) (s t : Ids) → AtMost n t → ((i : ℕ) → s i ≡ true → t i ≡ true) → AtMost n s
+few-within n s t m f = record { listed = m .listed; few = m .few; all = λ i e. m .all i (f i e) }
+
+pub few-before : (n : ℕ) (s : Ids) (k : ℕ) → AtMost n (join s k) → AtMost n s
+few-before n s k m = few-within n s (join s k) m (λ i e. go (eqb k i) (s i) e)
+  where
+    go : (a b : Bool) → b ≡ true → cond a true b ≡ true
+    go true b e = refl
+    go false b e = e
+
 -- a number that is there already joins as it stands, and one that isn't leaves as it stands
 pub join-same : (s : Ids) (k : ℕ) → s k ≡ true → join s k ≡ s
 join-same s k e = λ j i. split-eq k i (λ q. ap (join s k) (sym q) ∙ join-here s k ∙ sym e ∙ ap s q) (λ n. join-there s k i n) j
@@ -307,7 +314,7 @@ join-same s k e = λ j i. split-eq k i (λ q. ap (join s k) (sym q) ∙ join-her
 pub leave-same : (s : Ids) (k : ℕ) → s k ≡ false → leave s k ≡ s
 leave-same s k e = λ j i. split-eq k i (λ q. ap (leave s k) (sym q) ∙ leave-here s k ∙ sym e ∙ ap s q) (λ n. leave-there s k i n) j
 
--- a set of which some number is known is not the empty one, and a list without a number is empty
+-- a list that makes the empty set is empty
 pub none-listed : (xs : List ℕ) → idsOf xs ≡ no-ids → length xs ≡ 0
 none-listed [] e = refl
 none-listed (x ∷ xs) e = true-false (sym (idsOf-here x xs) ∙ ap (λ (s : Ids). s x) e)

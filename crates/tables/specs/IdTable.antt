@@ -1,6 +1,7 @@
 -- A table of ids (`set<ReqId>`), and the set that it stands for.
 use Prim.Native.Nat.{ℕ, _+_, _-_}
 use mathlib.Core.Bool.{cond}
+use mathlib.Core.Path.{_≡_}
 use lib.Dec.{ltb}
 use lib.ListN.{length, take, set, replicate}
 use Rattle.laws.specs.Sets.{Ids, idsOf}
@@ -13,6 +14,10 @@ idSet t = idsOf (take (t .count) (t .ids))
 
 abbrev pub noIds : IdTable
 noIds = record { ids = replicate 16 0; count = 0 }
+
+-- what the type says and the record doesn't
+pub record SizedIds (t : IdTable) : Type 0 where
+  pub ids-long : length (t .ids) ≡ 16
 
 -- one more at the end; a full table stays as it is
 unfoldable pub addedId : IdTable → ℕ → IdTable

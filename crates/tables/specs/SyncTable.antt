@@ -1,25 +1,38 @@
 -- The table of sync requests (`map<uint64, SyncReqStatus>`): ids with a state each, a number from 1 to 3.
-use Prim.Native.Nat.{ℕ, _+_, _-_}
+use Prim.Native.Nat.{ℕ}
 use mathlib.Core.Bool.{Bool, cond}
+use mathlib.Core.Path.{_≡_}
 use mathlib.Core.List.{map}
 use mathlib.Core.Option.{Option, none, some}
-use lib.Dec.{leb, ltb, eqb}
-use lib.ListN.{length, take, set, replicate}
+use lib.Dec.{leb, eqb}
+use lib.ListN.{length, take, replicate}
 use Rattle.laws.specs.Choice.{also}
 use Rattle.laws.specs.Fold.{every}
-use Rattle.laws.specs.Sets.{Map, mapOf, each}
+use Rattle.laws.specs.Sets.{Map, each}
 use Rattle.tables.specs.declared.sync_table.SyncTable.{SyncTable}
-use Rattle.tables.specs.Rows.{filled, inUse}
+use Rattle.tables.specs.Rows.{Rows, rowMap, addedRow, removedRow}
+
+-- the table as rows and back
+abbrev pub syncRows : SyncTable → Rows ℕ
+syncRows t = record { ids = t .ids; values = t .states; count = t .count }
+
+abbrev pub syncTable : Rows ℕ → SyncTable
+syncTable r = record { ids = r .ids; states = r .values; count = r .count }
 
 -- the map of ids to state numbers, and through f, which says what a number stands for, the source's map
 abbrev pub stateMap : SyncTable → Map ℕ
-stateMap t = mapOf (take (t .count) (t .ids)) (take (t .count) (t .states))
+stateMap t = rowMap (syncRows t)
 
 abbrev pub syncMap : {A : Type 0} → (ℕ → A) → SyncTable → Map A
 syncMap f t = each f (stateMap t)
 
 abbrev pub noSyncs : SyncTable
 noSyncs = record { ids = replicate 32 0; states = replicate 32 0; count = 0 }
+
+-- what the type says and the record doesn't
+pub record SizedSyncs (t : SyncTable) : Type 0 where
+  pub ids-long : length (t .ids) ≡ 32
+  pub states-long : length (t .states) ≡ 32
 
 -- every state in use is State1, State2 or State3
 unfoldable pub okState : ℕ → Bool
@@ -33,19 +46,11 @@ abbrev pub orZero : Option ℕ → ℕ
 orZero none = 0
 orZero (some n) = n
 
--- one more at the end; a full table stays as it is
-unfoldable pub addedSync : SyncTable → ℕ → ℕ → SyncTable
-addedSync t id state =
-    cond (ltb (t .count) (length (t .ids)))
-    (record { ids = set (t .ids) (t .count) id; states = set (t .states) (t .count) state; count = t .count + 1 })
-    t
+abbrev pub addedSync : SyncTable → ℕ → ℕ → SyncTable
+addedSync t id state = syncTable (addedRow (syncRows t) id state)
 
--- the last one takes place i; a place that isn't in use changes nothing
-unfoldable pub removedSync : SyncTable → ℕ → SyncTable
-removedSync t i =
-    cond (inUse (t .count) i (t .ids))
-    (record { ids = filled 0 (t .count) i (t .ids); states = filled 0 (t .count) i (t .states); count = t .count - 1 })
-    t
+abbrev pub removedSync : SyncTable → ℕ → SyncTable
+removedSync t i = syncTable (removedRow 0 (syncRows t) i)
 
 -- one state goes on to another, everywhere
 unfoldable pub moved : (from to : ℕ) → ℕ → ℕ

@@ -1,12 +1,13 @@
 // A table of ids.
+use super::ids::ask_add;
 use super::ids::ask_join;
-use super::ids::ask_new;
 use super::ids::has;
 use super::ids::ok;
 use super::ids::place;
+use super::ids::room;
 ghost use mathlib.Core.Path.{_≡_};
 ghost use lib.ListN.{take};
-ghost use Rattle.tables.specs.Rows.{placeOf, counted, askNew, askJoin};
+ghost use Rattle.tables.specs.Rows.{placeOf, counted, hasRoom, askAdd, askJoin};
 ghost use Rattle.tables.specs.IdTable.{idSet, noIds, addedId, joinedId, removedId};
 
 const SIZE: usize = 16;
@@ -50,12 +51,20 @@ impl IdTable {
         place(&ids, self.count, id)
     }
 
-    // Questions 5 and 8: may a new id be added?
-    pub fn ask_new(self, id: u64, most: usize) -> u8
-        ensures { λ r. ⌜ r ≡ askNew most (self .count) (self .ids) id ⌝ }
+    // Is there room for so many more?
+    pub fn room(self, more: usize, most: usize) -> bool
+        ensures { λ r. ⌜ r ≡ hasRoom most (self .count) more (self .ids) ⌝ }
     {
         let ids = self.ids;
-        ask_new(&ids, self.count, most, id)
+        room(&ids, self.count, more, most)
+    }
+
+    // Questions 5 and 8: may a new id be added?
+    pub fn ask_add(self, id: u64, most: usize) -> u8
+        ensures { λ r. ⌜ r ≡ askAdd most (self .count) (self .ids) id ⌝ }
+    {
+        let ids = self.ids;
+        ask_add(&ids, self.count, id, most)
     }
 
     // Question 8: may an id join, as in a set?
@@ -63,7 +72,7 @@ impl IdTable {
         ensures { λ r. ⌜ r ≡ askJoin most (self .count) (self .ids) id ⌝ }
     {
         let ids = self.ids;
-        ask_join(&ids, self.count, most, id)
+        ask_join(&ids, self.count, id, most)
     }
 
     pub fn add(mut self, id: u64) -> IdTable

@@ -3,7 +3,7 @@ use runs::lesser;
 ghost use mathlib.Core.Path.{_≡_};
 ghost use lib.ListN.{take};
 ghost use Rattle.laws.specs.Sets.{idsOf};
-ghost use Rattle.tables.specs.Rows.{placeOf, distinct, within, same, counted, hasRoom, askNew, askJoin};
+ghost use Rattle.tables.specs.Rows.{placeOf, distinct, within, same, counted, hasRoom, askAdd, askJoin};
 
 // The place of an id; the length where it isn't there.
 pub fn find(ids: &[u64], id: u64) -> usize
@@ -92,23 +92,26 @@ pub(crate) fn ok(ids: &[u64], count: usize, most: usize) -> bool
     false
 }
 
-pub(crate) fn room(ids: &[u64], count: usize, most: usize) -> bool
-    ensures { λ r. ⌜ r ≡ hasRoom most count (now (ids .entry)) ⌝ }
+// Is there room for so many more?
+pub(crate) fn room(ids: &[u64], count: usize, more: usize, most: usize) -> bool
+    ensures { λ r. ⌜ r ≡ hasRoom most count more (now (ids .entry)) ⌝ }
 {
-    let a = count < most;
-    let b = count < ids.len();
-    a & b
+    let n = lesser(most, ids.len());
+    if count <= n {
+        return more <= n - count;
+    }
+    false
 }
 
 // Questions 5 and 8 of an id that has to be new.
-pub(crate) fn ask_new(ids: &[u64], count: usize, most: usize, id: u64) -> u8
-    ensures { λ r. ⌜ r ≡ askNew most count (now (ids .entry)) id ⌝ }
+pub(crate) fn ask_add(ids: &[u64], count: usize, id: u64, most: usize) -> u8
+    ensures { λ r. ⌜ r ≡ askAdd most count (now (ids .entry)) id ⌝ }
 {
     let there = has(ids, count, id);
     if there {
         return 5;
     }
-    let free = room(ids, count, most);
+    let free = room(ids, count, 1, most);
     if free {
         return 0;
     }
@@ -116,14 +119,14 @@ pub(crate) fn ask_new(ids: &[u64], count: usize, most: usize, id: u64) -> u8
 }
 
 // Question 8 of an id that joins as in a set.
-pub(crate) fn ask_join(ids: &[u64], count: usize, most: usize, id: u64) -> u8
+pub(crate) fn ask_join(ids: &[u64], count: usize, id: u64, most: usize) -> u8
     ensures { λ r. ⌜ r ≡ askJoin most count (now (ids .entry)) id ⌝ }
 {
     let there = has(ids, count, id);
     if there {
         return 0;
     }
-    let free = room(ids, count, most);
+    let free = room(ids, count, 1, most);
     if free {
         return 0;
     }

@@ -1,9 +1,10 @@
 // A table of ids with an interval each.
 use super::id_table::IdTable;
-use super::ids::ask_new;
+use super::ids::ask_add;
 use super::ids::has;
 use super::ids::ok;
 use super::ids::place;
+use super::ids::room;
 use super::ids::same;
 use interval::JournalInterval;
 use layout::Geometry;
@@ -11,7 +12,7 @@ use runs::lesser;
 ghost use mathlib.Core.Path.{_≡_};
 ghost use lib.ListN.{take};
 ghost use Rattle.laws.specs.Sets.{idsOf};
-ghost use Rattle.tables.specs.Rows.{placeOf, counted, askNew, same};
+ghost use Rattle.tables.specs.Rows.{placeOf, counted, hasRoom, askAdd, same};
 ghost use Rattle.tables.specs.IntervalTable.{intervalMap, noIntervals, validIntervals, heldOf, addedInterval, removedInterval};
 
 const SIZE: usize = 16;
@@ -97,12 +98,20 @@ impl IntervalTable {
         Held::Nothing
     }
 
-    // Questions 5 and 8: may a new id be added?
-    pub fn ask_new(self, id: u64, most: usize) -> u8
-        ensures { λ r. ⌜ r ≡ askNew most (self .count) (self .ids) id ⌝ }
+    // Is there room for so many more?
+    pub fn room(self, more: usize, most: usize) -> bool
+        ensures { λ r. ⌜ r ≡ hasRoom most (self .count) more (self .ids) ⌝ }
     {
         let ids = self.ids;
-        ask_new(&ids, self.count, most, id)
+        room(&ids, self.count, more, most)
+    }
+
+    // Questions 5 and 8: may a new id be added?
+    pub fn ask_add(self, id: u64, most: usize) -> u8
+        ensures { λ r. ⌜ r ≡ askAdd most (self .count) (self .ids) id ⌝ }
+    {
+        let ids = self.ids;
+        ask_add(&ids, self.count, id, most)
     }
 
     pub fn add(mut self, id: u64, v: JournalInterval) -> IntervalTable

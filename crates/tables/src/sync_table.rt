@@ -1,5 +1,5 @@
 // The table of sync requests. Nothing outside this file looks into it: find, add, remove and move states are all that is done to it.
-use super::ids::ask_new;
+use super::ids::ask_add;
 use super::ids::has;
 use super::ids::ok;
 use super::ids::place;
@@ -8,7 +8,7 @@ ghost use mathlib.Core.Path.{_≡_};
 ghost use lib.ListN.{take};
 ghost use Rattle.laws.specs.Fold.{every};
 ghost use Rattle.laws.specs.Sets.{idsOf};
-ghost use Rattle.tables.specs.Rows.{placeOf, counted, askNew};
+ghost use Rattle.tables.specs.Rows.{placeOf, counted, askAdd};
 ghost use Rattle.tables.specs.SyncTable.{stateMap, noSyncs, okState, validStates, orZero, addedSync, removedSync, moved, movedSyncs};
 
 const SIZE: usize = 32;
@@ -75,11 +75,11 @@ impl SyncTable {
     }
 
     // Questions 5 and 8: may a new id be added?
-    pub fn ask_new(self, id: u64, most: usize) -> u8
-        ensures { λ r. ⌜ r ≡ askNew most (self .count) (self .ids) id ⌝ }
+    pub fn ask_add(self, id: u64, most: usize) -> u8
+        ensures { λ r. ⌜ r ≡ askAdd most (self .count) (self .ids) id ⌝ }
     {
         let ids = self.ids;
-        ask_new(&ids, self.count, most, id)
+        ask_add(&ids, self.count, id, most)
     }
 
     pub fn add(mut self, id: u64, state: u8) -> SyncTable

@@ -4,14 +4,14 @@ use mathlib.Core.Bool.{Bool, true, false, cond}
 use mathlib.Core.Path.{_≡_, refl, sym, _∙_, ap}
 use mathlib.Core.List.{List, [], _∷_}
 use mathlib.Core.Option.{some, none}
-use native.Mathlib.Nat.{zero-add, add-zero}
+use native.Mathlib.Nat.{zero-add}
 use native.Mathlib.Omega.{arith}
 use lib.Dec.{ltb, eqb}
 use lib.ListN.{length, take, drop, getD, length-take}
 use lib.Seq.{getD-take}
 use borrow.Author.Tests.{lt-ltb, le-ltb, ltb-true, eq-eqb, ne-eqb}
-use Rattle.laws.specs.Choice.{leb-same, split-eq, split-bool, also, also-left, also-right, also-both, true-false, false-true, not-so}
-use Rattle.laws.specs.Fold.{every, every-at, every-all}
+use Rattle.laws.specs.Choice.{leb-same, split-eq, also-left, also-right, also-both, true-false, false-true}
+use Rattle.laws.specs.Fold.{every-at, every-all}
 use Rattle.laws.specs.Maps.{mapOf-none}
 use Rattle.laws.specs.Part.{drop-step, drop-end, tail-is}
 use Rattle.laws.specs.Sets.{Ids, idsOf, mapOf, Distinct, idsOf-here, idsOf-there, bind-here, bind-there, out-head, out-tail, same-ids}
@@ -73,6 +73,16 @@ place-id id (k ∷ ks) d h =
     (λ e. ap (λ (n : ℕ). getD (k ∷ ks) n d) (place-here id k ks e) ∙ e)
     (λ n. ap (λ (m : ℕ). getD (k ∷ ks) m d) (place-there id k ks n) ∙ place-id id ks d (let q = place-there id k ks n in omega arith))
 
+-- what stands at a place is there
+pub place-member : (xs : List ℕ) (i d : ℕ) → i < length xs → idsOf xs (getD xs i d) ≡ true
+unfolding idsOf
+place-member [] i d h = absurd (omega arith)
+place-member (x ∷ xs) zero d h = idsOf-here x xs
+place-member (x ∷ xs) (suc i) d h =
+    split-eq x (getD xs i d)
+    (λ e. ap (idsOf (x ∷ xs)) (sym e) ∙ idsOf-here x xs)
+    (λ n. idsOf-there x (getD xs i d) xs n ∙ place-member xs i d (omega arith))
+
 module _ {A : Type 0} where
   pub place-value : (id : ℕ) (ks : List ℕ) (vs : List A) (d : A) → length ks ≡ length vs → placeOf id ks < length ks → mapOf ks vs id ≡ some (getD vs (placeOf id ks) d)
   unfolding mapOf
@@ -85,6 +95,16 @@ module _ {A : Type 0} where
       bind-there (mapOf ks vs) k id v n
       ∙ place-value id ks vs d (omega arith) (let q = place-there id k ks n in omega arith)
       ∙ ap (λ (m : ℕ). some (getD (v ∷ vs) m d)) (sym (place-there id k ks n)))
+
+  -- what stands beside an id is its value, where ids differ
+  pub held-at : (ks : List ℕ) (vs : List A) (i : ℕ) (c : ℕ) (d : A) → length ks ≡ length vs → Distinct ks → i < length ks → mapOf ks vs (getD ks i c) ≡ some (getD vs i d)
+  unfolding mapOf Distinct
+  held-at [] vs i c d e t h = absurd (omega arith)
+  held-at (k ∷ ks) [] i c d e t h = absurd (omega arith)
+  held-at (k ∷ ks) (v ∷ vs) zero c d e t h = bind-here (mapOf ks vs) k v
+  held-at (k ∷ ks) (v ∷ vs) (suc i) c d e t h =
+      bind-there (mapOf ks vs) k (getD ks i c) v (λ q. true-false (sym (place-member ks i c (omega arith)) ∙ ap (idsOf ks) (sym q) ∙ t .0))
+      ∙ held-at ks vs i c d (omega arith) (t .1) (omega arith)
 
   -- the same in arrays with a count, of which the code looks at as many places as there are
   module _ (ids : List ℕ) (vs : List A) (count id i n size : ℕ) (p : length ids ≡ size) (q : length vs ≡ size) (m : n ≡ min count size) (e : i ≡ placeOf id (take count ids)) where
@@ -148,3 +168,14 @@ pub same-sets : (xs ys : List ℕ) → same xs ys ≡ true → idsOf xs ≡ idsO
 unfolding same
 same-sets xs ys e =
     same-ids (idsOf xs) (idsOf ys) (within-all xs ys (also-left (within xs ys) (within ys xs) e)) (within-all ys xs (also-right (within xs ys) (within ys xs) e))
+
+pub all-within : (xs ys : List ℕ) → ((i : ℕ) → idsOf xs i ≡ true → idsOf ys i ≡ true) → within xs ys ≡ true
+unfolding within
+all-within xs ys f = every-all (idsOf ys) xs 0 (λ i h. f (getD xs i 0) (place-member xs i 0 h))
+
+pub sets-same : (xs ys : List ℕ) → idsOf xs ≡ idsOf ys → same xs ys ≡ true
+unfolding same
+sets-same xs ys e =
+    also-both (within xs ys) (within ys xs)
+    (all-within xs ys (λ i h. sym (ap (λ (s : Ids). s i) e) ∙ h))
+    (all-within ys xs (λ i h. ap (λ (s : Ids). s i) e ∙ h))

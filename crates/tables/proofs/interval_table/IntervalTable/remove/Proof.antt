@@ -1,7 +1,6 @@
 use Prim.Native.Nat.{_<_, _≤_}
 use Rattle.laws.specs.Choice.{tests, also}
-use Rattle.tables.specs.IntervalTable.{removedInterval}
-use Rattle.tables.specs.Rows.{inUse}
+use Rattle.tables.specs.Rows.{inUse, removedRow}
 use borrow.Author.Needs.{needs}
 use lib.ListN.{length}
 use mathlib.Core.Path.{_≡_}
@@ -40,15 +39,15 @@ element-set-from-v : tie.Need-element-set-from-v
 element-set-from-v c = search needs
 
 returns : tie.Need-returns
-unfolding removedInterval inUse also
+unfolding removedRow inUse also
 returns c = let b = c .before .before .before .before in let e = ids-long b in let h : b .args .t1 .count ≤ length (b .args .t1 .ids) = omega arith in search tests
 
 returns-2 : tie.Need-returns-2
-unfolding removedInterval inUse also
+unfolding removedRow inUse also
 returns-2 c = let b = c .before .before in let e = ids-long b in let h : b .args .t1 .count ≤ length (b .args .t1 .ids) = omega arith in search tests
 
 returns-3 : tie.Need-returns-3
-unfolding removedInterval inUse also
+unfolding removedRow inUse also
 returns-3 c = let b = c .before in let e = ids-long b in let h : length (b .args .t1 .ids) < b .args .t1 .count = omega arith in search tests
 
 pub remove-spec : {M : Type 1} → statement M
