@@ -1,5 +1,5 @@
 -- Document 01's range format as the relations' `Codec`: a range's bytes are cut into blocks of 4,096, and blocks parse where their bytes do.
-use Prim.Native.Nat.{_+_, _<_}
+use Prim.Native.Nat.{ℕ, _+_, _≤_, _<_}
 use mathlib.Core.Bool.{Bool, true}
 use mathlib.Core.Path.{_≡_, refl, sym, _∙_, ap}
 use mathlib.Core.List.{List, [], _∷_, _++_, append-nil}
@@ -12,28 +12,47 @@ use Rattle.laws.specs.Choice.{also, also-left, also-right, also-both}
 use Rattle.laws.specs.Fold.{sum, every, sum-replicate}
 use Rattle.laws.specs.Cut.{cut, flat, lengths, length-cut, flat-append, lengths-cut, flat-even}
 use Rattle.range.specs.Form as Form
-use Rattle.range.specs.Form.{Entry, BlockSize, MostEntries, MostEntryLength, LengthWidth, okLength, blocksAllAt, parseAllAt}
+pub use Rattle.range.specs.Form.{MostEntries, MostEntryLength}
+use Rattle.range.specs.Form.{Entry, BlockSize, LengthWidth, okLength, blocksAllAt, parseAllAt}
+use Rattle.range.specs.Bytes.{ok-low, ok-high, ok-yes}
 use Rattle.range.specs.Blocks.{format-sizes, blocks-some, length-encodeAt}
-use Rattle.range.specs.Ranges.{parseAll-none, parseAll-append, encodeAll-one, parseAll-encodeAll}
-use Rattle.codec.specs.Codec.{JournalRange, Codec}
+use Rattle.range.specs.Ranges.{parseAll-none, parseAll-parses, parseAll-entries, parseAll-append, encodeAll-one, parseAll-encodeAll, allEntries-count, allEntries-bytes, allEntries-each}
+use Rattle.codec.specs.Codec.{JournalRange, SizedBlocks, EntriesFit, Codec}
 use Rattle.codec.specs.Ranges.{Range, blocks}
 
 -- the test of what one range can hold: from 1 to 1,024 entries of 1 to 255 bytes
+abbrev pub MostHeld : ℕ
+MostHeld = MostEntries
+
 unfoldable pub goodEntries : List Entry → Bool
 goodEntries es =
     also (leb 1 (length es))
-    (also (leb (length es) MostEntries)
+    (also (leb (length es) MostHeld)
     (every (okLength MostEntryLength) (lengths es)))
 
 pub good-facts : (es : List Entry) → goodEntries es ≡ true → Form.Good MostEntryLength es
 unfolding goodEntries
 good-facts es e =
     let e1 = also-right _ _ e in
-    record { any = leb-true 1 (length es) (also-left _ _ e); few = leb-true (length es) MostEntries (also-left _ _ e1); each = also-right _ _ e1 }
+    let few = leb-true (length es) MostHeld (also-left _ _ e1) in
+    record { any = leb-true 1 (length es) (also-left _ _ e); few = omega arith; each = also-right _ _ e1 }
 
 pub facts-good : (es : List Entry) → Form.Good MostEntryLength es → goodEntries es ≡ true
 unfolding goodEntries
-facts-good es f = also-both _ _ (le-leb 1 (length es) (f .any)) (also-both _ _ (le-leb (length es) MostEntries (f .few)) (f .each))
+facts-good es f = also-both _ _ (le-leb 1 (length es) (f .any)) (also-both _ _ (le-leb (length es) MostHeld (omega (arith, f .few))) (f .each))
+
+-- entries fit where the test of each length says so
+pub fit-lengths : (most : ℕ) (es : List Entry) → EntriesFit most es → every (okLength most) (lengths es) ≡ true
+unfolding every lengths
+fit-lengths most [] h = refl
+fit-lengths most (e ∷ es) h = also-both _ _ (ok-yes most (length e) (h .0 .some-byte) (h .0 .most-bytes)) (fit-lengths most es (h .1))
+
+pub lengths-fit : (most : ℕ) (es : List Entry) → every (okLength most) (lengths es) ≡ true → EntriesFit most es
+unfolding every lengths
+lengths-fit most [] h = tt
+lengths-fit most (e ∷ es) h =
+    let ok = also-left _ _ h in
+    (record { some-byte = ok-low most (length e) ok; most-bytes = ok-high most (length e) ok }, lengths-fit most es (also-right _ _ h))
 
 -- the blocks of a range
 unfoldable pub encodeBlocks : List Entry → JournalRange
@@ -75,6 +94,30 @@ format-append a b es fs p q = ap (parseAllAt LengthWidth MostEntryLength) (flat-
 pub format-some : (es : List Entry) → 0 < length (encodeBlocks es)
 format-some es = omega (arith, length-encodeBlocks es, blocks-some LengthWidth es)
 
+pub format-size : (es : List Entry) → SizedBlocks (length (encodeBlocks es)) (encodeBlocks es)
+format-size es = lengths-encodeBlocks es ∙ ap (λ (n : ℕ). replicate n BlockSize) (sym (length-encodeBlocks es))
+
+-- what parses: how many entries, their bytes, and the length of each
+module _ (bs : JournalRange) (es : List Entry) (p : parseBlocks bs ≡ some es) where
+  pub format-few : length es ≤ length (flat bs)
+  unfolding parseBlocks
+  format-few =
+      let n = allEntries-count LengthWidth MostEntryLength (flat bs) (parseAll-parses LengthWidth MostEntryLength (flat bs) es p) in
+      omega (arith, ap {B = ℕ} length (parseAll-entries LengthWidth MostEntryLength (flat bs) es p))
+
+  pub format-small : sum (lengths es) ≤ length (flat bs)
+  unfolding parseBlocks
+  format-small =
+      let n = allEntries-bytes LengthWidth MostEntryLength (flat bs) (parseAll-parses LengthWidth MostEntryLength (flat bs) es p) in
+      omega (arith, ap (λ (l : List Entry). sum (lengths l)) (parseAll-entries LengthWidth MostEntryLength (flat bs) es p))
+
+  pub format-fit : EntriesFit MostEntryLength es
+  unfolding parseBlocks
+  format-fit =
+      lengths-fit MostEntryLength es
+      (ap (λ (l : List Entry). every (okLength MostEntryLength) (lengths l)) (sym (parseAll-entries LengthWidth MostEntryLength (flat bs) es p))
+      ∙ allEntries-each LengthWidth MostEntryLength (flat bs) (parseAll-parses LengthWidth MostEntryLength (flat bs) es p))
+
 abbrev pub format : Codec
 format =
     record {
@@ -85,6 +128,9 @@ format =
       parse-encode = format-encode;
       parse-append = format-append;
       encode-some = format-some;
+      encode-size = format-size;
+      parse-few = format-few;
+      parse-small = format-small;
     }
 
 -- the blocks of ranges are the format's

@@ -1,3 +1,4 @@
 pub mod Codec
 pub mod Ranges
+pub mod Sizes
 pub mod Format

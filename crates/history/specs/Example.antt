@@ -1,4 +1,5 @@
 pub mod Can
+pub mod Range
 pub mod Load
 pub mod States
 pub mod Day

@@ -11,6 +11,8 @@ use native.Mathlib.Omega.{arith}
 use lib.Dec.{ltb}
 use borrow.Author.Tests.{lt-ltb, le-ltb, le-leb, lt-leb, eq-eqb, ne-eqb, leb-true}
 use lib.ListN.{length, take, drop, getD}
+use lib.Seq.{ext-getD}
+use Rattle.laws.specs.Part.{tab, length-tab, getD-tab}
 use Rattle.laws.specs.Choice.{also-false, false-also, true-also, by-leb, by-ltb, split-le, also-left, also-right, either-cases}
 use Rattle.laws.specs.Ring.{wrap, off, by-off, wrap-below, wrap-past, wrap-in, wrap-add}
 use Rattle.laws.specs.Around.{around, length-around, getD-around, around-straight, around-past, around-append, around-drop, around-none}
@@ -241,6 +243,26 @@ module _ {ℓ} {A : Type ℓ} (g : Geometry) (s : List A) (hs : length s ≡ g .
           (record { start-in = f .start-in; len-in = omega arith })
           (next-start-wrap g (interval (v .start) (g .blocks - v .start)) ∙ ap (wrap (g .blocks)) z ∙ wrap-past (g .blocks) (g .blocks) (omega arith) ∙ n)
           (omega arith)
+
+-- the slice of a ring whose places a function gives
+pub slice-tab {ℓ} : {A : Type ℓ} (g : Geometry) (h : ℕ → A) (v : JournalInterval) → ValidJournalInterval g v
+    → CyclicSlice g (tab (g .blocks) h) v ≡ tab (v .len) (λ t. h (wrap (g .blocks) (v .start + t)))
+slice-tab {A = A} g h v f =
+    ext-getD (h 0) (CyclicSlice g s v) (tab (v .len) (λ t. h (wrap (g .blocks) (v .start + t)))) (ls ∙ sym (length-tab (v .len) (λ t. h (wrap (g .blocks) (v .start + t)))))
+    (λ t l.
+    let k : t < v .len = omega (arith, l, ls) in
+    slice-at g s long v f t (h 0) k
+    ∙ getD-tab (g .blocks) h (wrap (g .blocks) (v .start + t)) (h 0) (wrap-in (g .blocks) (v .start + t) (omega (arith, k, f .start-in, f .len-in)))
+    ∙ sym (getD-tab (v .len) (λ i. h (wrap (g .blocks) (v .start + i))) t (h 0) k))
+  where
+    s : List A
+    s = tab (g .blocks) h
+
+    long : length s ≡ g .blocks
+    long = length-tab (g .blocks) h
+
+    ls : length (CyclicSlice g s v) ≡ v .len
+    ls = length-slice g s long v f
 
 -- the interval of a journal location is contiguous, and gives the location back
 module _ (g : Geometry) (loc : Location) (f : ValidJournalLocation g loc) where

@@ -1,29 +1,26 @@
--- The lent blocks and marks as source 002's journal: a list of N blocks, each readable or none. Slices, updates and full ranges of lent
--- memory are the source's, for every N.
+-- The lent blocks and marks as source 002's journal: a list of N blocks, each readable or none. Its slices are the slices of lent bytes
+-- and marks, whatever the marks, for every N.
 use Prim.Native.Nat.{ℕ, _+_, _*_, _≤_, _<_}
-use mathlib.Core.Bool.{true, cond}
+use mathlib.Core.Bool.{Bool, true, cond}
 use mathlib.Core.Path.{_≡_, sym, _∙_, ap}
 use mathlib.Core.List.{List, [], map}
 use mathlib.Core.Option.{Option, none, some}
 use native.Mathlib.Omega.{arith}
-use lib.Dec.{ltb, eqb}
-use borrow.Author.Tests.{lt-ltb, le-ltb}
-use lib.ListN.{length, take, drop, getD, replicate, length-map, length-replicate, getD-replicate}
+use lib.ListN.{length, take, drop, getD, length-map}
 use lib.Seq.{ext-getD, getD-take, getD-drop}
-use Rattle.laws.specs.Choice.{split-le, split-bool}
-use Rattle.laws.specs.Fold.{every-at, every-same}
-use Rattle.laws.specs.Part.{tab, length-tab, getD-tab, getD-map-in, length-part}
-use Rattle.laws.specs.Ring.{wrap, off, wrap-in, wrap-scaled, off-scaled}
-use Rattle.laws.specs.Around.{length-around, getD-around, length-spliceAround, getD-spliceAround}
+use Rattle.laws.specs.Choice.{split-bool}
+use Rattle.laws.specs.Fold.{every, every-at, every-same}
+use Rattle.laws.specs.Part.{tab, length-tab, getD-tab, tab-same, getD-map-in, length-part}
+use Rattle.laws.specs.Ring.{wrap, wrap-in, wrap-scaled}
+use Rattle.laws.specs.Around.{length-around, getD-around}
 use Rattle.layout.specs.declared.geometry.Geometry.{Geometry}
 use Rattle.layout.specs.Geometry.{NumJournalBlocks}
 use Rattle.interval.specs.declared.interval.JournalInterval.{JournalInterval}
 use Rattle.interval.specs.Facts.{ValidJournalInterval}
 use Rattle.interval.specs.Journal.{JournalBlock, CyclicSlice, readable, fullRange}
-use Rattle.interval.specs.Laws.{splice-value-off, slice-at, length-slice}
-use Rattle.interval.specs.Update.{updated, updated-at, length-updated}
-use Rattle.journal.specs.Memory.{isOne, sliceBytes, sliceMarks, updateBytes, updateMarks, fullMarks}
-use Rattle.journal.specs.Laws.{Blocks, Marks, Update}
+use Rattle.interval.specs.Laws.{slice-around, slice-tab}
+use Rattle.journal.specs.Memory.{isOne, sliceBytes, sliceMarks, fullMarks}
+use Rattle.journal.specs.Asked.{Blocks, Marks}
 
 -- block i of bytes, and the first n blocks
 abbrev pub blockAt : List ℕ → ℕ → JournalBlock
@@ -32,20 +29,24 @@ blockAt bytes i = take 4096 (drop (i * 4096) bytes)
 unfoldable pub blocksIn : ℕ → List ℕ → List JournalBlock
 blocksIn n bytes = tab n (blockAt bytes)
 
--- the journal: a block is there where its mark is 1
+-- the first n blocks with their marks: a block is there where its mark is 1
 abbrev pub cellAt : List ℕ → List ℕ → ℕ → Option JournalBlock
-cellAt blocks marks i = cond (isOne (getD marks i 0)) (some (blockAt blocks i)) none
+cellAt bytes marks i = cond (isOne (getD marks i 0)) (some (blockAt bytes i)) none
 
-unfoldable pub cells : Geometry → List ℕ → List ℕ → List (Option JournalBlock)
-cells g blocks marks = tab (NumJournalBlocks g) (cellAt blocks marks)
+unfoldable pub cellsIn : ℕ → List ℕ → List ℕ → List (Option JournalBlock)
+cellsIn n bytes marks = tab n (cellAt bytes marks)
 
-pub length-cells : (g : Geometry) (blocks marks : List ℕ) → length (cells g blocks marks) ≡ g .blocks
-unfolding cells
-length-cells g blocks marks = length-tab (g .blocks) (cellAt blocks marks)
+-- the journal
+abbrev pub cells : Geometry → List ℕ → List ℕ → List (Option JournalBlock)
+cells g blocks marks = cellsIn (NumJournalBlocks g) blocks marks
 
-pub cell-at : (g : Geometry) (blocks marks : List ℕ) (i : ℕ) → i < g .blocks → getD (cells g blocks marks) i none ≡ cellAt blocks marks i
-unfolding cells
-cell-at g blocks marks i h = getD-tab (g .blocks) (cellAt blocks marks) i none h
+pub length-cells : (n : ℕ) (bytes marks : List ℕ) → length (cellsIn n bytes marks) ≡ n
+unfolding cellsIn
+length-cells n bytes marks = length-tab n (cellAt bytes marks)
+
+pub cell-at : (n : ℕ) (bytes marks : List ℕ) (i : ℕ) → i < n → getD (cellsIn n bytes marks) i none ≡ cellAt bytes marks i
+unfolding cellsIn
+cell-at n bytes marks i h = getD-tab n (cellAt bytes marks) i none h
 
 -- two blocks are the same where their bytes are
 pub same-block : (xs ys : List ℕ) (i j : ℕ) → i * 4096 + 4096 ≤ length xs → j * 4096 + 4096 ≤ length ys
@@ -65,148 +66,88 @@ same-block xs ys i j h k f =
     ly : length (blockAt ys j) ≡ 4096
     ly = length-part ys (j * 4096) 4096 k
 
--- an update of lent memory is the source's
-module _ (g : Geometry) (v : JournalInterval) (new blocks marks : List ℕ) (u : Update g v new blocks marks) where
-  size : length blocks ≡ g .blocks * 4096
-  size = u .blocks-size .size
+-- every block is readable exactly where every mark is 1, and then the cells are the blocks
+readable-is : (bytes marks : List ℕ) (i : ℕ) → readable (cellAt bytes marks i) ≡ isOne (getD marks i 0)
+readable-is bytes marks i =
+    split-bool (isOne (getD marks i 0))
+    (λ e. (λ j. readable (cond (e j) (some (blockAt bytes i)) none)) ∙ sym e)
+    (λ e. (λ j. readable (cond (e j) (some (blockAt bytes i)) none)) ∙ sym e)
 
-  ones : length (replicate {A = ℕ} (v .len) 1) ≡ v .len
-  ones = length-replicate (v .len) 1
+pub full-is : (n : ℕ) (bytes marks : List ℕ) → length marks ≡ n → fullRange (cellsIn n bytes marks) ≡ every isOne marks
+unfolding fullRange
+full-is n bytes marks h =
+    every-same readable isOne (cellsIn n bytes marks) marks none 0 (length-cells n bytes marks ∙ sym h)
+    (λ i l. ap readable (cell-at n bytes marks i (omega (arith, l, length-cells n bytes marks))) ∙ readable-is bytes marks i)
 
-  -- the mark and the bytes of block i
-  mark-after : (i : ℕ) → i < g .blocks
-      → getD (updateMarks marks v) i 0 ≡ cond (ltb (off (g .blocks) (v .start) i) (v .len)) (getD (replicate (v .len) 1) (off (g .blocks) (v .start) i) 0) (getD marks i 0)
-  unfolding updateMarks
-  mark-after i h =
-      getD-spliceAround marks (v .start) (replicate (v .len) 1) i 0 (omega arith) (omega (arith, ones)) (omega arith)
-      ∙ (λ j.
-      cond (ltb (off (u .marks-size .size j) (v .start) i) (ones j)) (getD (replicate (v .len) 1) (off (u .marks-size .size j) (v .start) i) 0) (getD marks i 0))
+pub full-cells : (n : ℕ) (bytes marks : List ℕ) → length marks ≡ n → every isOne marks ≡ true → cellsIn n bytes marks ≡ map some (blocksIn n bytes)
+unfolding cellsIn blocksIn
+full-cells n bytes marks h e =
+    ext-getD none (tab n (cellAt bytes marks)) (map some (tab n (blockAt bytes)))
+    (length-tab n (cellAt bytes marks) ∙ sym (length-map (tab n (blockAt bytes)) some ∙ length-tab n (blockAt bytes)))
+    (λ i l.
+    let k : i < n = omega (arith, l, length-tab n (cellAt bytes marks)) in
+    let one : isOne (getD marks i 0) ≡ true = every-at isOne marks i 0 e (omega arith) in
+    getD-tab n (cellAt bytes marks) i none k
+    ∙ (λ j. cond (one j) (some (blockAt bytes i)) none)
+    ∙ sym (getD-map-in some (tab n (blockAt bytes)) i [] none (omega (arith, length-tab n (blockAt bytes))) ∙ ap some (getD-tab n (blockAt bytes) i [] k)))
 
-  byte-after : (i r : ℕ) → i < g .blocks → r < 4096
-      → getD (updateBytes blocks v new) (i * 4096 + r) 0
-      ≡ cond (ltb (off (g .blocks) (v .start) i * 4096 + r) (v .len * 4096)) (getD new (off (g .blocks) (v .start) i * 4096 + r) 0) (getD blocks (i * 4096 + r) 0)
-  unfolding updateBytes
-  byte-after i r h l =
-      getD-spliceAround blocks (v .start * 4096) new (i * 4096 + r) 0 (omega (arith, size)) (omega (arith, size)) (omega (arith, size))
-      ∙ (λ j.
-      cond (ltb (off (size j) (v .start * 4096) (i * 4096 + r)) (u .new-size j)) (getD new (off (size j) (v .start * 4096) (i * 4096 + r)) 0) (getD blocks (i * 4096 + r) 0))
-      ∙ ap (λ (o : ℕ). cond (ltb o (v .len * 4096)) (getD new o 0) (getD blocks (i * 4096 + r) 0))
-      (off-scaled (g .blocks) (v .start) i r (u .valid .start-in) h l)
+-- the slices of a valid interval
+module _ (g : Geometry) (v : JournalInterval) (f : ValidJournalInterval g v) where
+  -- of marks
+  module _ (marks : List ℕ) (hm : length marks ≡ g .blocks) where
+    mark-at : (t : ℕ) → t < v .len → getD (sliceMarks marks v) t 0 ≡ getD marks (wrap (g .blocks) (v .start + t)) 0
+    unfolding sliceMarks
+    mark-at t h =
+        getD-around marks (v .start) (v .len) t 0 (omega arith) (omega arith) h
+        ∙ ap (λ (n : ℕ). getD marks (wrap n (v .start + t)) 0) hm
 
-  length-after : length (updateBytes blocks v new) ≡ g .blocks * 4096
-  unfolding updateBytes
-  length-after = length-spliceAround blocks (v .start * 4096) new (omega (arith, size)) (omega (arith, size)) ∙ size
+    pub length-marks : length (sliceMarks marks v) ≡ v .len
+    unfolding sliceMarks
+    length-marks = length-around marks (v .start) (v .len) (omega arith) (omega arith)
 
-  in-blocks : (i : ℕ) → i < v .len → getD (blocksIn (v .len) new) i [] ≡ blockAt new i
-  unfolding blocksIn
-  in-blocks i h = getD-tab (v .len) (blockAt new) i [] h
+    pub slice-marks : CyclicSlice g marks v ≡ sliceMarks marks v
+    unfolding sliceMarks
+    slice-marks = slice-around g marks hm v f
 
-  cell-after : (i : ℕ) → i < g .blocks
-      → cellAt (updateBytes blocks v new) (updateMarks marks v) i
-      ≡ cond (ltb (off (g .blocks) (v .start) i) (v .len)) (some (getD (blocksIn (v .len) new) (off (g .blocks) (v .start) i) [])) (cellAt blocks marks i)
-  unfolding isOne
-  cell-after i h =
-      split-le (v .len) o
-      (λ l.
-      let m : getD (updateMarks marks v) i 0 ≡ getD marks i 0 = mark-after i h ∙ simp (le-ltb o (v .len) l) in
-      let b : blockAt (updateBytes blocks v new) i ≡ blockAt blocks i =
-      same-block (updateBytes blocks v new) blocks i i (omega (arith, length-after)) (omega (arith, size))
-      (λ r k. let n : v .len * 4096 ≤ o * 4096 + r = omega arith in byte-after i r h k ∙ simp (le-ltb (o * 4096 + r) (v .len * 4096) n))
-      in
-      (λ j. cond (eqb (m j) 1) (some (b j)) none) ∙ sym (simp (le-ltb o (v .len) l)))
-      (λ l.
-      let m : getD (updateMarks marks v) i 0 ≡ 1 = mark-after i h ∙ simp (lt-ltb o (v .len) l) (getD-replicate (v .len) o 1 0 l) in
-      let b : blockAt (updateBytes blocks v new) i ≡ getD (blocksIn (v .len) new) o [] =
-      same-block (updateBytes blocks v new) new i o (omega (arith, length-after)) (omega (arith, u .new-size))
-      (λ r k. let n : o * 4096 + r < v .len * 4096 = omega arith in byte-after i r h k ∙ simp (lt-ltb (o * 4096 + r) (v .len * 4096) n))
-      ∙ sym (in-blocks o l)
-      in
-      (λ j. cond (eqb (m j) 1) (some (b j)) none) ∙ sym (simp (lt-ltb o (v .len) l)))
-    where
-      o : ℕ
-      o = off (g .blocks) (v .start) i
+  -- of bytes
+  module _ (blocks : List ℕ) (hb : length blocks ≡ g .blocks * 4096) where
+    pub length-bytes : length (sliceBytes blocks v) ≡ v .len * 4096
+    unfolding sliceBytes
+    length-bytes = length-around blocks (v .start * 4096) (v .len * 4096) (omega arith) (omega arith)
 
-  long : v .len ≡ length (blocksIn (v .len) new)
-  unfolding blocksIn
-  long = sym (length-tab (v .len) (blockAt new))
+    byte-at : (t r : ℕ) → t < v .len → r < 4096 → getD (sliceBytes blocks v) (t * 4096 + r) 0 ≡ getD blocks (wrap (g .blocks) (v .start + t) * 4096 + r) 0
+    unfolding sliceBytes
+    byte-at t r h l =
+        let e : v .start * 4096 + (t * 4096 + r) ≡ (v .start + t) * 4096 + r = omega arith in
+        getD-around blocks (v .start * 4096) (v .len * 4096) (t * 4096 + r) 0 (omega arith) (omega arith) (omega arith)
+        ∙ (λ j. getD blocks (wrap (hb j) (e j)) 0)
+        ∙ ap (λ (w : ℕ). getD blocks w 0) (wrap-scaled (g .blocks) (v .start + t) r l)
 
-  pub cells-update : cells g (updateBytes blocks v new) (updateMarks marks v) ≡ updated (cells g blocks marks) v (blocksIn (v .len) new)
-  cells-update =
-      ext-getD none after (updated (cells g blocks marks) v (blocksIn (v .len) new)) (la ∙ sym (length-updated g (cells g blocks marks) v (blocksIn (v .len) new) lb (u .valid) long))
-      (λ i l.
-      let h : i < g .blocks = omega (arith, l, la) in
-      cell-at g (updateBytes blocks v new) (updateMarks marks v) i h
-      ∙ cell-after i h
-      ∙ ap (cond (ltb (off (g .blocks) (v .start) i) (v .len)) (some (getD (blocksIn (v .len) new) (off (g .blocks) (v .start) i) []))) (sym (cell-at g blocks marks i h))
-      ∙ sym (splice-value-off g v (u .valid) i h (cells g blocks marks) (blocksIn (v .len) new))
-      ∙ sym (updated-at g (cells g blocks marks) v (blocksIn (v .len) new) lb (u .valid) long i (omega (arith, lb, h))))
-    where
-      after : List (Option JournalBlock)
-      after = cells g (updateBytes blocks v new) (updateMarks marks v)
+    block-at : (t : ℕ) → t < v .len → blockAt blocks (wrap (g .blocks) (v .start + t)) ≡ blockAt (sliceBytes blocks v) t
+    block-at t h =
+        let w : wrap (g .blocks) (v .start + t) < g .blocks = wrap-in (g .blocks) (v .start + t) (omega arith) in
+        same-block blocks (sliceBytes blocks v) (wrap (g .blocks) (v .start + t)) t (omega arith) (omega (arith, length-bytes)) (λ r k. sym (byte-at t r h k))
 
-      la : length after ≡ g .blocks
-      la = length-cells g (updateBytes blocks v new) (updateMarks marks v)
+    pub slice-blocks : CyclicSlice g (blocksIn (g .blocks) blocks) v ≡ blocksIn (v .len) (sliceBytes blocks v)
+    unfolding blocksIn
+    slice-blocks =
+        slice-tab g (blockAt blocks) v f
+        ∙ tab-same (v .len) (λ t. blockAt blocks (wrap (g .blocks) (v .start + t))) (blockAt (sliceBytes blocks v)) block-at
 
-      lb : length (cells g blocks marks) ≡ g .blocks
-      lb = length-cells g blocks marks
+    -- of both: whatever the marks
+    module _ (marks : List ℕ) (hm : length marks ≡ g .blocks) where
+      pub slice-cells : CyclicSlice g (cells g blocks marks) v ≡ cellsIn (v .len) (sliceBytes blocks v) (sliceMarks marks v)
+      unfolding cellsIn
+      slice-cells =
+          slice-tab g (cellAt blocks marks) v f
+          ∙ tab-same (v .len) (λ t. cellAt blocks marks (wrap (g .blocks) (v .start + t))) (cellAt (sliceBytes blocks v) (sliceMarks marks v))
+          (λ t h j. cond (isOne (sym (mark-at marks hm t h) j)) (some (block-at t h j)) none)
 
--- a full range of lent marks is the source's, and its slice is the bytes' blocks
-module _ (g : Geometry) (v : JournalInterval) (blocks marks : List ℕ) (hb : Blocks g blocks) (hm : Marks g marks) (f : ValidJournalInterval g v) where
-  readable-is : (i : ℕ) → readable (cellAt blocks marks i) ≡ isOne (getD marks i 0)
-  readable-is i = split-bool (isOne (getD marks i 0)) (λ e. (λ j. readable (cond (e j) (some (blockAt blocks i)) none)) ∙ sym e) (λ e. (λ j. readable (cond (e j) (some (blockAt blocks i)) none)) ∙ sym e)
+      -- a full range of lent marks is the source's, and then its slice is the blocks
+      pub full-marks : fullRange (CyclicSlice g (cells g blocks marks) v) ≡ fullMarks marks v
+      unfolding fullMarks
+      full-marks = ap fullRange slice-cells ∙ full-is (v .len) (sliceBytes blocks v) (sliceMarks marks v) (length-marks marks hm)
 
-  mark-at : (t : ℕ) → t < v .len → getD (sliceMarks marks v) t 0 ≡ getD marks (wrap (g .blocks) (v .start + t)) 0
-  unfolding sliceMarks
-  mark-at t h =
-      getD-around marks (v .start) (v .len) t 0 (omega arith) (omega arith) h
-      ∙ ap (λ (n : ℕ). getD marks (wrap n (v .start + t)) 0) (hm .size)
-
-  cell-in : (t : ℕ) → t < v .len → getD (CyclicSlice g (cells g blocks marks) v) t none ≡ cellAt blocks marks (wrap (g .blocks) (v .start + t))
-  cell-in t h =
-      slice-at g (cells g blocks marks) (length-cells g blocks marks) v f t none h
-      ∙ cell-at g blocks marks (wrap (g .blocks) (v .start + t)) (wrap-in (g .blocks) (v .start + t) (omega arith))
-
-  length-marks : length (sliceMarks marks v) ≡ v .len
-  unfolding sliceMarks
-  length-marks = length-around marks (v .start) (v .len) (omega arith) (omega arith)
-
-  length-slice-cells : length (CyclicSlice g (cells g blocks marks) v) ≡ v .len
-  length-slice-cells = length-slice g (cells g blocks marks) (length-cells g blocks marks) v f
-
-  pub full-marks : fullMarks marks v ≡ fullRange (CyclicSlice g (cells g blocks marks) v)
-  unfolding fullMarks fullRange
-  full-marks =
-      every-same isOne readable (sliceMarks marks v) (CyclicSlice g (cells g blocks marks) v) 0 none (length-marks ∙ sym length-slice-cells)
-      (λ t l.
-      let h : t < v .len = omega (arith, l, length-marks) in
-      ap isOne (mark-at t h) ∙ sym (readable-is (wrap (g .blocks) (v .start + t))) ∙ ap readable (sym (cell-in t h)))
-
-  length-bytes : length (sliceBytes blocks v) ≡ v .len * 4096
-  unfolding sliceBytes
-  length-bytes = length-around blocks (v .start * 4096) (v .len * 4096) (omega arith) (omega arith)
-
-  byte-at : (t r : ℕ) → t < v .len → r < 4096 → getD (sliceBytes blocks v) (t * 4096 + r) 0 ≡ getD blocks (wrap (g .blocks) (v .start + t) * 4096 + r) 0
-  unfolding sliceBytes
-  byte-at t r h l =
-      let e : v .start * 4096 + (t * 4096 + r) ≡ (v .start + t) * 4096 + r = omega arith in
-      getD-around blocks (v .start * 4096) (v .len * 4096) (t * 4096 + r) 0 (omega arith) (omega arith) (omega arith)
-      ∙ (λ j. getD blocks (wrap (hb .size j) (e j)) 0)
-      ∙ ap (λ (w : ℕ). getD blocks w 0) (wrap-scaled (g .blocks) (v .start + t) r l)
-
-  pub slice-cells : fullMarks marks v ≡ true → CyclicSlice g (cells g blocks marks) v ≡ map some (blocksIn (v .len) (sliceBytes blocks v))
-  unfolding fullMarks blocksIn
-  slice-cells full =
-      ext-getD none (CyclicSlice g (cells g blocks marks) v) (map some (tab (v .len) (blockAt (sliceBytes blocks v))))
-      (length-slice-cells ∙ sym (length-map (tab (v .len) (blockAt (sliceBytes blocks v))) some ∙ length-tab (v .len) (blockAt (sliceBytes blocks v))))
-      (λ t l.
-      let h : t < v .len = omega (arith, l, length-slice-cells) in
-      let w : wrap (g .blocks) (v .start + t) < g .blocks = wrap-in (g .blocks) (v .start + t) (omega arith) in
-      let one : isOne (getD marks (wrap (g .blocks) (v .start + t)) 0) ≡ true =
-      ap isOne (sym (mark-at t h)) ∙ every-at isOne (sliceMarks marks v) t 0 full (omega (arith, length-marks))
-      in
-      let n : length (tab (v .len) (blockAt (sliceBytes blocks v))) ≡ v .len = length-tab (v .len) (blockAt (sliceBytes blocks v)) in
-      cell-in t h
-      ∙ (λ j. cond (one j) (some (blockAt blocks (wrap (g .blocks) (v .start + t)))) none)
-      ∙ ap some
-      (same-block blocks (sliceBytes blocks v) (wrap (g .blocks) (v .start + t)) t (omega arith) (omega (arith, length-bytes)) (λ r k. sym (byte-at t r h k)))
-      ∙ sym (getD-map-in some (tab (v .len) (blockAt (sliceBytes blocks v))) t [] none (omega arith) ∙ ap some (getD-tab (v .len) (blockAt (sliceBytes blocks v)) t [] h)))
+      pub slice-full : fullMarks marks v ≡ true → CyclicSlice g (cells g blocks marks) v ≡ map some (blocksIn (v .len) (sliceBytes blocks v))
+      unfolding fullMarks
+      slice-full e = slice-cells ∙ full-cells (v .len) (sliceBytes blocks v) (sliceMarks marks v) (length-marks marks hm) e

@@ -1,18 +1,19 @@
 -- A list as a ring of S elements, S its length: the elements from a place on, going round, and a write that goes round. Every law holds for
 -- every S: facts go by index. Assumes nothing.
 use Prim.Native.Nat.{ℕ, _+_, _-_, _≤_, _<_, min}
-use mathlib.Core.Bool.{cond}
+use mathlib.Core.Bool.{Bool, cond}
 use mathlib.Core.Path.{_≡_, refl, sym, _∙_, ap}
 use mathlib.Core.List.{List, [], _∷_, _++_, append-nil}
-use native.Mathlib.Nat.{zero-add, add-sub-of-le, sub-le}
+use native.Mathlib.Nat.{zero-add, add-sub-of-le, sub-le, min-eq-left, min-eq-right, le-of-lt}
 use native.Mathlib.Omega.{arith}
 use lib.Dec.{ltb}
 use borrow.Author.Tests.{lt-ltb, le-ltb}
 use lib.ListN.{length, take, drop, getD, replicate, length-append, length-take, length-drop, length-replicate, List·getD-append}
 use lib.Seq.{length-take-le, take-all, take-take, take-append-le, take-append-add, take-nil, drop-nil, drop-at, getD-take, getD-drop, getD-append-add, ext-getD}
-use Rattle.laws.specs.Choice.{by-ltb, split-le}
-use Rattle.laws.specs.Part.{min-less, drop-end, take-min, drop-take, part-replicate}
-use Rattle.laws.specs.Splice.{splice, clipped, clipped-fits, length-clipped, length-splice, getD-splice-before, getD-splice-here, getD-splice-after, splice-none}
+use Rattle.laws.specs.Choice.{also, by-ltb, split-le}
+use Rattle.laws.specs.Fold.{every, every-append}
+use Rattle.laws.specs.Part.{min-less, drop-end, take-min, drop-min, take-front, drop-take, length-part, part-replicate}
+use Rattle.laws.specs.Splice.{splice, clipped, clipped-fits, clipped-then, length-clipped, length-splice, getD-splice-before, getD-splice-here, getD-splice-after, splice-none}
 use Rattle.laws.specs.Ring.{wrap, off, by-wrap, by-off, wrap-in, off-in, wrap-add, wrap-off, off-wrap, off-shift}
 
 -- the n elements from `at` on, going round
@@ -22,6 +23,10 @@ around s at n = take n (drop at s ++ take at s)
 -- d with the elements of s from `at` on, up to d's end, and the rest of s from d's front on
 unfoldable pub spliceAround {ℓ} : {A : Type ℓ} → List A → ℕ → List A → List A
 spliceAround d at s = splice (splice d at (take (length d - at) s)) 0 (drop (length d - at) s)
+
+-- the same of the first elements of s, as many as d has: what a write does that goes round once at most
+abbrev pub clippedAround {ℓ} : {A : Type ℓ} → List A → ℕ → List A → List A
+clippedAround d at s = spliceAround d at (take (length d) s)
 
 module _ {ℓ} {A : Type ℓ} where
   pub length-around : (s : List A) (at n : ℕ) → at ≤ length s → n ≤ length s → length (around s at n) ≡ n
@@ -110,6 +115,17 @@ module _ {ℓ} {A : Type ℓ} where
   spliceAround-past d at s h =
       let e : length d - at ≡ 0 = omega arith in
       (λ i. splice (splice d at (take (e i) s)) 0 (drop (e i) s)) ∙ ap (λ (l : List A). splice l 0 s) (sym (splice-none d at))
+
+  -- so a place past the end may be told as the end
+  pub spliceAround-min : (d : List A) (at : ℕ) (s : List A) → spliceAround d (min at (length d)) s ≡ spliceAround d at s
+  spliceAround-min d at s =
+      split-le at (length d)
+      (λ h. rw (min-eq-left h))
+      (λ h. rw (min-eq-right (le-of-lt h)) (spliceAround-past d (length d) s (omega arith) ∙ sym (spliceAround-past d at s (omega arith))))
+
+  -- nothing is cut off a write that is no longer than the ring
+  pub clippedAround-fits : (d : List A) (at : ℕ) (s : List A) → length s ≤ length d → clippedAround d at s ≡ spliceAround d at s
+  clippedAround-fits d at s h = ap (spliceAround d at) (take-all (length d) s h)
 
   -- what stands at offset o of a ring of S places after a run s and then a run t behind it, y having stood there before
   abbrev twice : List A → List A → ℕ → ℕ → A → A → A
@@ -320,21 +336,52 @@ module _ {ℓ} {A : Type ℓ} where
       ∙ take-append-add (drop at s) (take at s) (at + n - length s)
       ∙ ap (λ (z : List A). drop at s ++ z) (take-take (at + n - length s) at s (omega arith))
 
-  -- in one part or two: up to the end, and the rest from the front
-  pub around-parts : (s : List A) (at n : ℕ) → at ≤ length s → n ≤ length s
-      → around s at n ≡ take (min n (length s - at)) (drop at s) ++ take (n - min n (length s - at)) s
-  around-parts s at n h k =
-      split-le n (length s - at)
-      (λ l.
-      let e : min n (length s - at) ≡ n = omega arith in
-      let z : n - n ≡ 0 = omega arith in
-      rw (e, z) (around-straight s at n (omega arith) ∙ sym (append-nil (take n (drop at s)))))
-      (λ l.
-      let e : min n (length s - at) ≡ length s - at = omega arith in
-      let z : n - (length s - at) ≡ at + n - length s = omega arith in
-      rw (e, z)
-      (around-past s at n h (omega arith) k
-      ∙ ap (λ (x : List A). x ++ take (at + n - length s) s) (sym (take-all (length s - at) (drop at s) (simp length-drop (omega arith))))))
+  -- a place past the end is the end
+  pub around-min : (s : List A) (at n : ℕ) → around s (min at (length s)) n ≡ around s at n
+  unfolding around
+  around-min s at n = λ i. take n (drop-min s at (length s) refl i ++ take-min s at (length s) refl i)
+
+  -- in two parts, whatever the place and the count: up to the end, and the rest from the front
+  pub around-parts : (s : List A) (at n place first rest : ℕ) → place ≡ min at (length s) → first ≡ min n (length s - place) → rest ≡ min (n - first) place
+      → around s at n ≡ take first (drop place s) ++ take rest s
+  unfolding around
+  around-parts s at n place first rest ep ef er =
+      sym (around-min s at n)
+      ∙ ap (λ (p : ℕ). around s p n) (sym ep)
+      ∙ split-le n (length s - place)
+      (λ h.
+      let e : n ≡ first = omega arith in
+      let z : rest ≡ 0 = omega arith in
+      take-append-le n (drop place s) (take place s) (simp length-drop h)
+      ∙ ap (λ (m : ℕ). take m (drop place s)) e
+      ∙ sym (append-nil (take first (drop place s)))
+      ∙ ap (λ (m : ℕ). take first (drop place s) ++ take m s) (sym z))
+      (λ h.
+      let e : length (drop place s) + (n - first) ≡ n = simp length-drop (omega arith) in
+      let all : take first (drop place s) ≡ drop place s = take-all first (drop place s) (simp length-drop (omega arith)) in
+      ap (λ (m : ℕ). take m (drop place s ++ take place s)) (sym e)
+      ∙ take-append-add (drop place s) (take place s) (n - first)
+      ∙ (λ i. sym all i ++ back i))
+    where
+      back : take (n - first) (take place s) ≡ take rest s
+      back = take-front (n - first) place s ∙ ap (λ (m : ℕ). take m s) (sym er)
+
+  -- read in these two parts: copied one behind the other to the front of d, or tested
+  module _ (s : List A) (at n place first rest k m : ℕ) (ep : place ≡ min at (length s)) (ef : first ≡ min n (length s - place)) (er : rest ≡ min (n - first) place)
+      (ek : k ≡ first) (em : m ≡ rest) where
+    parts : take k (drop place s) ++ take m s ≡ around s at n
+    parts = (λ i. take (ek i) (drop place s) ++ take (em i) s) ∙ sym (around-parts s at n place first rest ep ef er)
+
+    pub around-copied : (d x y : List A) → x ≡ clipped d 0 (take k (drop place s)) → y ≡ clipped x first (take m s) → y ≡ clipped d 0 (around s at n)
+    around-copied d x y ex ey =
+        let l : first ≡ 0 + length (take k (drop place s)) = omega (arith, ek, length-part s place k (omega arith)) in
+        ey
+        ∙ (λ i. clipped (ex i) (l i) (take m s))
+        ∙ clipped-then d 0 (take k (drop place s)) (take m s)
+        ∙ ap (clipped d 0) parts
+
+    pub every-around : (p : A → Bool) (a b : Bool) → a ≡ every p (take k (drop place s)) → b ≡ every p (take m s) → also a b ≡ every p (around s at n)
+    every-around p a b ea eb = (λ i. also (ea i) (eb i)) ∙ sym (every-append p (take k (drop place s)) (take m s)) ∙ ap (every p) parts
 
   pub around-none : (s : List A) (at : ℕ) → around s at 0 ≡ []
   unfolding around

@@ -202,6 +202,10 @@ unless-done q old new h = asked-yes q new old h
 pub refused-kept {ℓ} : {A : Type ℓ} (r q : ℕ) (old new : A) → r ≡ q → (r ≡ 0 → ⊥) → old ≡ unless q old new
 refused-kept r q old new e h = sym (unless-kept q old new (λ z. h (e ∙ z)))
 
+-- and what it answers with that number
+pub refused-said {ℓ} : {A : Type ℓ} (r q : ℕ) (x : A) (f : ℕ → A) → r ≡ q → (r ≡ 0 → ⊥) → f r ≡ cond (eqb q 0) x (f q)
+refused-said r q x f e h = ap f e ∙ sym (asked-no q x (f q) (λ z. h (e ∙ z)))
+
 -- a bare dichotomy of two numbers, and of a test
 pub split-le {κ} : {P : Type κ} (m n : ℕ) → (m ≤ n → P) → (n < m → P) → P
 split-le {P = P} m n f g = by-leb (λ (u : Unit {0}). P) m n tt tt f g

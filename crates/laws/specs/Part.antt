@@ -6,7 +6,7 @@ use mathlib.Core.List.{List, [], _∷_, _++_, append-nil, map}
 use native.Mathlib.Nat.{sub-zero, zero-sub, zero-min, min-zero, min-eq-left, min-eq-right, le-of-lt}
 use native.Mathlib.Numerals.{add-one}
 use native.Mathlib.Omega.{arith}
-use lib.ListN.{length, take, drop, getD, length-drop, take-append-drop, drop-of-length-le, replicate}
+use lib.ListN.{length, take, drop, getD, length-take, length-drop, take-append-drop, drop-of-length-le, replicate}
 use lib.Seq.{drop-cons, take-all, take-suc, drop-drop, length-take-le, take-add, take-nil, take-take, drop-at}
 use Rattle.laws.specs.Choice.{split-le}
 
@@ -50,6 +50,28 @@ module _ {ℓ} {A : Type ℓ} where
       split-le n r
       (λ h. rw (min-eq-left h))
       (λ h. rw (min-eq-right (le-of-lt h)) (take-all r xs (omega arith) ∙ sym (take-all n xs (omega arith))))
+
+  -- a front of a front is the shorter one
+  pub take-front : (m n : ℕ) (xs : List A) → take m (take n xs) ≡ take (min m n) xs
+  take-front m n xs =
+      split-le m n
+      (λ h. rw (min-eq-left h) (take-take m n xs h))
+      (λ h. rw (min-eq-right (le-of-lt h)) (take-all m (take n xs) (simp length-take (omega arith))))
+
+  -- a place that is cut at the end drops the same
+  pub drop-min : (xs : List A) (n r : ℕ) → length xs ≡ r → drop (min n r) xs ≡ drop n xs
+  drop-min xs n r e =
+      split-le n r
+      (λ h. rw (min-eq-left h))
+      (λ h. rw (min-eq-right (le-of-lt h)) (drop-end xs r (omega arith) ∙ sym (drop-end xs n (omega arith))))
+
+  -- a part whose place and count are cut at the end is the part
+  pub part-cut : (xs : List A) (from count start size k : ℕ) → start ≡ min from (length xs) → size ≡ min count (length xs - start) → k ≡ size
+      → take k (drop start xs) ≡ take count (drop from xs)
+  part-cut xs from count start size k es ez ek =
+      ap (λ (n : ℕ). take n (drop start xs)) (ek ∙ ez)
+      ∙ ap (take (min count (length xs - start))) (ap (λ (n : ℕ). drop n xs) es ∙ drop-min xs from (length xs) refl)
+      ∙ take-min (drop from xs) count (length xs - start) (simp length-drop (omega arith))
 
   -- dropping from what was taken is taking from what was dropped
   pub drop-take : (a k : ℕ) (xs : List A) → drop a (take (a + k) xs) ≡ take k (drop a xs)
@@ -130,3 +152,9 @@ unfolding tab
 getD-tab zero f i d h = absurd (omega arith)
 getD-tab (suc n) f zero d h = refl
 getD-tab (suc n) f (suc i) d h = getD-tab n (λ j. f (suc j)) i d (omega arith)
+
+-- two functions that agree below n give the same list
+pub tab-same {ℓ} : {A : Type ℓ} (n : ℕ) (f h : ℕ → A) → ((i : ℕ) → i < n → f i ≡ h i) → tab n f ≡ tab n h
+unfolding tab
+tab-same zero f h e = refl
+tab-same (suc n) f h e = λ j. e 0 (omega arith) j ∷ tab-same n (λ i. f (suc i)) (λ i. h (suc i)) (λ i l. e (suc i) (omega arith)) j

@@ -3,10 +3,10 @@
 use Prim.Native.Nat.{ℕ, suc, _+_, _-_, _≤_, _<_, min}
 use mathlib.Core.Path.{_≡_, refl, sym, _∙_, ap}
 use mathlib.Core.List.{List, [], _∷_, _++_, append-assoc, append-nil, map}
-use native.Mathlib.Nat.{add-zero, zero-add, add-assoc}
+use native.Mathlib.Nat.{add-zero, zero-add, add-assoc, min-eq-left, min-eq-right, le-of-lt}
 use native.Mathlib.Omega.{arith}
 use lib.ListN.{length, take, drop, getD, set, replicate, length-append, length-take, length-drop, length-replicate, replicate-append-replicate, take-append-drop, List·getD-append, List·getD-map, length-map}
-use lib.Seq.{length-take-le, take-all, take-at, drop-at, take-add, drop-drop, take-take, drop-cons, set-at, getD-take, getD-drop}
+use lib.Seq.{length-take-le, take-all, take-at, drop-at, take-add, take-append-le, take-append-add, drop-drop, take-take, drop-cons, set-at, getD-take, getD-drop}
 use Rattle.laws.specs.Choice.{split-le}
 use Rattle.laws.specs.Part.{take-step, take-min, length-part, drop-take, take-replicate}
 
@@ -222,6 +222,31 @@ module _ {ℓ} {A : Type ℓ} where
   pub clipped-fits : (d : List A) (at : ℕ) (s : List A) → at + length s ≤ length d → clipped d at s ≡ splice d at s
   unfolding clipped
   clipped-fits d at s h = ap (splice d at) (take-all (length d - at) s (omega arith))
+
+  -- nothing is written from the end on, so a place past it may be told as the end
+  pub clipped-past : (d : List A) (at : ℕ) (s : List A) → length d ≤ at → clipped d at s ≡ d
+  unfolding clipped
+  clipped-past d at s h = let e : length d - at ≡ 0 = omega arith in ap (λ (n : ℕ). splice d at (take n s)) e ∙ sym (splice-none d at)
+
+  pub clipped-min : (d : List A) (at : ℕ) (s : List A) → clipped d (min at (length d)) s ≡ clipped d at s
+  clipped-min d at s =
+      split-le at (length d)
+      (λ h. rw (min-eq-left h))
+      (λ h. rw (min-eq-right (le-of-lt h)) (clipped-past d (length d) s (omega arith) ∙ sym (clipped-past d at s (omega arith))))
+
+  -- a run after a run is one run, wherever it is cut
+  pub clipped-then : (d : List A) (at : ℕ) (s t : List A) → clipped (clipped d at s) (at + length s) t ≡ clipped d at (s ++ t)
+  unfolding clipped
+  clipped-then d at s t =
+      split-le (at + length s) (length d)
+      (λ h.
+      let e : length s + (length d - (at + length s)) ≡ length d - at = omega arith in
+      (λ i. splice (clipped-fits d at s h i) (at + length s) (take (length-clipped d at s i - (at + length s)) t))
+      ∙ splice-then d at s (take (length d - (at + length s)) t) h
+      ∙ ap (splice d at) (sym (take-append-add s t (length d - (at + length s))) ∙ ap (λ (n : ℕ). take n (s ++ t)) e))
+      (λ h.
+      clipped-past (clipped d at s) (at + length s) t (omega (arith, length-clipped d at s))
+      ∙ ap (splice d at) (sym (take-append-le (length d - at) s t (omega arith))))
 
   -- the end of a loop that copies, fills, or moves to the front, at the lesser of what there is and what there is room for
   pub copy-end : (x d : List A) (at : ℕ) (s : List A) (j : ℕ) → x ≡ splice d at (take j s) → j ≡ min (length d - at) (length s) → x ≡ clipped d at s

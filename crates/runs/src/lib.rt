@@ -1,6 +1,6 @@
 // Runs of elements in lent memory. The public face:
 //   lesser                                    the lesser of two numbers
-//   write_bytes, fill                         bytes from a place on, cut where the memory ends
+//   write_bytes, copy_bytes, fill             bytes from a place on, cut where the memory ends
 //   write_lengths, narrow, widen              lengths likewise: as they are, to single bytes, from single bytes
 //   write_bytes_around, narrow_around, fill_around   going round: what passes the memory's end goes to its front
 //   move_bytes, move_lengths                  a part moved to the front
@@ -25,5 +25,6 @@ pub use lengths::narrow;
 pub use lengths::widen;
 pub use lengths::write_lengths;
 pub use number::lesser;
+pub use run::copy_bytes;
 pub use run::fill;
 pub use run::write_bytes;

@@ -22,7 +22,8 @@ use Rattle.source.specs.JournalCache as M
 use Rattle.source.specs.JournalCache.{Variables, Ready, LoadingOther, LoadingSuperblock, ReadyVariables, LoadingOtherVariables, LoadingSuperblockVariables, isReady, isLoadingOther, isLoadingSuperblock, SuperblockUnfinished, SuperblockCorruption, to-journalReads, to-superblocks, toWrite, WriteBackJournalReq, PageInJournalResp, PageInSuperblockReq, FinishLoadingOtherPhase, NoOp}
 use Rattle.source.specs.JournalCache.{Step, WriteBackJournalReqStep, WriteBackJournalRespStep, WriteBackSuperblockReq-AdvanceLog-Step, WriteBackSuperblockReq-AdvanceLocation-Step, WriteBackSuperblockRespStep, PageInJournalReqStep, PageInJournalRespStep, PageInSuperblockReqStep, PageInSuperblockRespStep, FinishLoadingSuperblockPhaseStep, FinishLoadingOtherPhaseStep, FreezeStep, ReceiveFrozenLocStep, AdvanceStep, ReplayStep, PushSyncReqStep, PopSyncReqStep, NoOpStep}
 use Rattle.source.specs.JournalSystem as Y
-use Rattle.source.specs.Limits.{Limits, MachineLimits, DiskLimits, StepLimits, MachineMeets, DiskMeets, SystemMeets}
+use Rattle.source.specs.Limits.{Limits}
+use Rattle.source.specs.Meets.{SystemMeets}
 
 -- "A journal write sends the one range of the frozen entries if there are any, else of those in memory."
 
@@ -360,28 +361,6 @@ SystemStep⁺ g C s s′ (CrashStep picture) = Crash⁺ g s s′ picture
 pub record Allowed (g : Geometry) (C : Codec) (L : Limits) (s s′ : Y.Variables) (event : Event) : Type 0 where
   pub meets : SystemMeets g L s
   pub step : SystemStep⁺ g C s s′ event
-
--- the same of a machine alone, which knows no disk, and of a disk alone
-pub record MachineAllowed (g : Geometry) (C : Codec) (L : Limits) (s s′ : Variables) (dop : DiskOp) (machineStep : Step⁺) : Type 0 where
-  pub meets : MachineMeets g L s
-  pub step : NextStep⁺ g C s s′ dop machineStep
-
-pub record DiskAllowed (g : Geometry) (L : Limits) (s s′ : D.Variables) (dop : DiskOp) : Type 0 where
-  pub meets : DiskMeets g L s
-  pub step : D.Next g s s′ dop
-
--- an allowed step is within the limits where its arguments and the state that it leads to are
-abbrev pub EventLimits : Limits → Event → Type 0
-EventLimits L (MachineStep dop (Source step)) = StepLimits L step
-EventLimits L (MachineStep dop DamagedJournalStep) = Unit {0}
-EventLimits L (MachineStep dop (AskAgainStep which)) = Unit {0}
-EventLimits L (DiskInternalStep step) = Unit {0}
-EventLimits L (CrashStep picture) = Unit {0}
-
-pub record Within (g : Geometry) (L : Limits) (s′ : Y.Variables) (event : Event) : Type 0 where
-  pub arguments : EventLimits L event
-  pub machine : MachineLimits g L (s′ .machine)
-  pub disk : DiskLimits g L (s′ .disk)
 
 -- the events that are new
 abbrev pub New : Event → Type 0

@@ -3,5 +3,7 @@ pub mod MachineState
 pub mod JournalCache
 pub mod JournalSystem
 pub mod Limits
+pub mod Meets
 pub mod Departures
+pub mod Within
 pub mod Laws

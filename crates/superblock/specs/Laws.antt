@@ -1,14 +1,14 @@
 -- Laws of the superblock: well-formedness as facts, the counter's successor as a sum that wraps, and which slot is selected.
 use Prim.Native.Nat.{ℕ, _+_, _^_, _%_, _≤_, _<_}
 use mathlib.Core.Bool.{true, false}
-use mathlib.Core.Path.{_≡_, refl}
+use mathlib.Core.Path.{_≡_, refl, ap}
 use native.Mathlib.Omega.{arith}
-use borrow.Author.Tests.{leb-true, le-leb, ltb-true, lt-ltb, eq-eqb, ne-eqb}
+use borrow.Author.Tests.{leb-true, le-leb, ltb-true, lt-ltb, eqb-true, eq-eqb, ne-eqb}
 use Rattle.laws.specs.Choice.{also-left, also-right, also-both, by-eqb}
 use Rattle.layout.specs.declared.geometry.Geometry.{Geometry}
-use Rattle.layout.specs.Laws.{ValidIndirectionTableLocation, table-location-facts, facts-table-location}
+use Rattle.layout.specs.Laws.{ValidIndirectionTableLocation, table-location-facts, facts-table-location, same-location, location-same}
 use Rattle.superblock.specs.declared.superblock.Superblock.{Superblock}
-use Rattle.superblock.specs.Superblock.{IncrementSuperblockCounter, increments1, SelectSuperblockIndex, SelectSuperblock, wfSuperblock}
+use Rattle.superblock.specs.Superblock.{IncrementSuperblockCounter, increments1, SelectSuperblockIndex, SelectSuperblock, wfSuperblock, sameSuperblock}
 
 pub record WFSuperblock (g : Geometry) (s : Superblock) : Type 0 where
   pub start-in : s .journalStart < g .blocks
@@ -31,6 +31,28 @@ module _ (g : Geometry) (s : Superblock) where
   facts-superblock w =
       also-both _ _ (lt-ltb (s .journalStart) (g .blocks) (w .start-in))
       (also-both _ _ (le-leb (s .journalLen) (g .blocks) (w .len-in)) (facts-table-location g (s .indirectionTableLoc) (w .table-valid)))
+
+-- the test says that two superblocks are the same exactly where they are
+pub same-superblock : (a b : Superblock) → sameSuperblock a b ≡ true → a ≡ b
+unfolding sameSuperblock
+same-superblock a b e =
+    let e1 = also-right _ _ e in
+    let e2 = also-right _ _ e1 in
+    λ i.
+    record {
+      counter = eqb-true (a .counter) (b .counter) (also-left _ _ e) i;
+      journalStart = eqb-true (a .journalStart) (b .journalStart) (also-left _ _ e1) i;
+      journalLen = eqb-true (a .journalLen) (b .journalLen) (also-left _ _ e2) i;
+      indirectionTableLoc = same-location (a .indirectionTableLoc) (b .indirectionTableLoc) (also-right _ _ e2) i;
+    }
+
+pub superblock-same : (a b : Superblock) → a ≡ b → sameSuperblock a b ≡ true
+unfolding sameSuperblock
+superblock-same a b e =
+    also-both _ _ (eq-eqb (a .counter) (b .counter) (ap (λ (s : Superblock). s .counter) e))
+    (also-both _ _ (eq-eqb (a .journalStart) (b .journalStart) (ap (λ (s : Superblock). s .journalStart) e))
+    (also-both _ _ (eq-eqb (a .journalLen) (b .journalLen) (ap (λ (s : Superblock). s .journalLen) e))
+    (location-same (a .indirectionTableLoc) (b .indirectionTableLoc) (ap (λ (s : Superblock). s .indirectionTableLoc) e))))
 
 -- the successor is the sum that wraps, stays a 64-bit number, and differs from the counter
 pub increment-wraps : (i : ℕ) → i < 2 ^ 64 → IncrementSuperblockCounter i ≡ (i + 1) % 2 ^ 64

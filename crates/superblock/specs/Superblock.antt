@@ -6,7 +6,7 @@ use lib.Dec.{leb, ltb, eqb}
 use Rattle.laws.specs.Choice.{also}
 use Rattle.layout.specs.declared.geometry.Geometry.{Geometry}
 use Rattle.layout.specs.Geometry.{NumJournalBlocks}
-use Rattle.layout.specs.Location.{validIndirectionTableLocation}
+use Rattle.layout.specs.Location.{sameLocation, validIndirectionTableLocation}
 use Rattle.interval.specs.declared.interval.JournalInterval.{JournalInterval}
 use Rattle.interval.specs.Interval.{JournalFrontInterval, JournalBackInterval}
 use Rattle.superblock.specs.declared.superblock.Superblock.{Superblock}
@@ -45,3 +45,11 @@ wfSuperblock g s =
     also (ltb (s .journalStart) (NumJournalBlocks g))
     (also (leb (s .journalLen) (NumJournalBlocks g))
     (validIndirectionTableLocation g (s .indirectionTableLoc)))
+
+-- two superblocks are the same
+unfoldable pub sameSuperblock : Superblock → Superblock → Bool
+sameSuperblock a b =
+    also (eqb (a .counter) (b .counter))
+    (also (eqb (a .journalStart) (b .journalStart))
+    (also (eqb (a .journalLen) (b .journalLen))
+    (sameLocation (a .indirectionTableLoc) (b .indirectionTableLoc))))

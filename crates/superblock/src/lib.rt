@@ -1,9 +1,9 @@
 // The superblock, and the operations that machine and disk share. The public face:
-//   Superblock          counter, the journal's start and len, the table's location; well-formed, its front and back, the next counter
+//   Superblock          counter, the journal's start and len, the table's location; the same, well formed, front and back, the next counter
 //   selection           which of two superblocks is the newer
 //   DiskOp              what the machine asks of the disk and what the disk answers (source 001)
 //   MaybeSuperblock     what a slot holds; SuperblockRead and JournalRead: what a read came back with
-// Every function is total. `well_formed`, `front` and `back` ask nothing, and hold for any geometry; the others ask questions 1 and 4.
+// Every function is total. `same`, `well_formed`, `front` and `back` ask nothing, and hold for any geometry; the others ask questions 1 and 4.
 mod disk_op;
 mod superblock;
 

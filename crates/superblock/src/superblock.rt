@@ -10,7 +10,7 @@ ghost use Rattle.layout.specs.Answer.{decided};
 ghost use Rattle.layout.specs.Geometry.{askGeometry};
 ghost use Rattle.interval.specs.Answer.{maybeInterval, maybeSpanned};
 ghost use Rattle.interval.specs.Interval.{askInterval, interval};
-ghost use Rattle.superblock.specs.Superblock.{IncrementSuperblockCounter, increments1, SelectSuperblockIndex, SelectSuperblock, JournalFrontIntervalOfSuperblock, JournalBackIntervalOfSuperblock, wfSuperblock};
+ghost use Rattle.superblock.specs.Superblock.{IncrementSuperblockCounter, increments1, SelectSuperblockIndex, SelectSuperblock, JournalFrontIntervalOfSuperblock, JournalBackIntervalOfSuperblock, wfSuperblock, sameSuperblock};
 
 pub struct Superblock {
     pub counter: u64,
@@ -56,6 +56,18 @@ pub fn select_superblock(superblock1: Superblock, superblock2: Superblock) -> Su
 }
 
 impl Superblock {
+    pub fn same(self, other: Superblock) -> bool
+        ensures { λ r. ⌜ r ≡ sameSuperblock self other ⌝ }
+    {
+        let loc = self.indirectionTableLoc;
+        let next = other.indirectionTableLoc;
+        let a = self.counter == other.counter;
+        let b = self.journalStart == other.journalStart;
+        let c = self.journalLen == other.journalLen;
+        let d = loc.same(next);
+        a & (b & (c & d))
+    }
+
     // The two pieces in which loading reads the journal.
     pub fn front(self, g: Geometry) -> MaybeInterval
         ensures { λ r. ⌜ r ≡ maybeInterval (JournalFrontIntervalOfSuperblock g self) ⌝ }

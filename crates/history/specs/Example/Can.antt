@@ -22,7 +22,8 @@ use Rattle.source.specs.JournalDisk.{ReqId, ReqWriteJournal, ReqWriteSuperblock
 use Rattle.source.specs.JournalCache as M
 use Rattle.source.specs.JournalCache.{CommitNone, CommitAdvanceLog, CommitAdvanceLocation, WriteBackJournalReqStep, WriteBackJournalRespStep, WriteBackSuperblockReq-AdvanceLog-Step, WriteBackSuperblockReq-AdvanceLocation-Step, WriteBackSuperblockRespStep, FreezeStep, ReceiveFrozenLocStep, AdvanceStep, ifNone, toWrite, joinIds, advancedLog, advancedLocation}
 use Rattle.source.specs.JournalSystem as Y
-use Rattle.source.specs.Limits.{Limits, SystemMeets}
+use Rattle.source.specs.Limits.{Limits}
+use Rattle.source.specs.Meets.{SystemMeets}
 use Rattle.source.specs.Departures.{Source, MachineStep, DiskInternalStep}
 use Rattle.history.specs.Ledger.{writeJournal, journalWritten, commitLog, commitLocation, superblockWritten, freeze, receive, add, land}
 use Rattle.history.specs.Calls.{tied-write, tied-written, tied-log, tied-location, tied-committed, tied-freeze, tied-receive, tied-add, tied-land, Takes}

@@ -20,8 +20,9 @@ use Rattle.history.specs.Calls.{Takes}
 use Rattle.codec.specs.Format.{format, encodeBlocks}
 use Rattle.history.specs.Example.Can
 use Rattle.history.specs.Example.Can.{store}
-use Rattle.history.specs.Example.Load.{g, table2, table2-valid, sb0, slots0, j0, j0-sized, Somewhere, onward, dayAt, none-pending, day-limits, r9}
-use Rattle.history.specs.Example.States.{small, large, one-block, two-blocks, small-good, large-good, small-pending, large-pending, dayDisk, writing, quiet, sb1, sb2, sb3, slots1, slots2, slots3, j1, j1-size, j1-sized, j2, j2-size, j2-sized, j3, one-piece, s10, s11, s12, s13, s14, s15, s16, s17, s18, s19, s20, s21, s22, s23, s24, s25, s26, s27, s28, s29, s9}
+use Rattle.history.specs.Example.Load.{g, table2, table2-valid, sb0, slots0, j0, Somewhere, onward, dayAt, none-pending, day-counts, r9}
+use Rattle.history.specs.Example.Range.{range-write, range-written, range-log, range-location, range-committed, range-freeze, range-receive, range-add, range-land}
+use Rattle.history.specs.Example.States.{small, large, one-block, two-blocks, small-good, large-good, small-pending, small-few, small-fit, large-pending, large-few, large-fit, dayDisk, writing, quiet, sb1, sb2, sb3, slots1, slots2, slots3, j1, j1-size, j2, j2-size, j3, s10, s11, s12, s13, s14, s15, s16, s17, s18, s19, s20, s21, s22, s23, s24, s25, s26, s27, s28, s29, s9}
 
 -- sixteen long entries, written in two blocks and kept by a log commit
 pub k10 : Takes g format limits s9 s10 (add large)
@@ -30,9 +31,9 @@ k10 =
 
 pub r10 : Somewhere s10
 r10 =
-    onward r9 (add large) k10
-    (day-limits sb0 false 0 0 false none large no-ids idle (none-few 16) large-pending)
-    (quiet (both none) slots0 j0 refl j0-sized)
+    onward r9 (add large) k10 (range-add g limits large large-few large-fit)
+    (day-counts sb0 false 0 0 false none large no-ids idle (none-few 16) large-pending)
+    (quiet (both none) slots0 j0)
 
 pub k11 : Takes g format limits s10 s11 (writeJournal 1 none)
 unfolding JournalPosAdd j1
@@ -42,9 +43,9 @@ k11 =
 
 pub r11 : Somewhere s11
 r11 =
-    onward r10 (writeJournal 1 none) k11
-    (day-limits sb0 false 2 0 false none [] (join no-ids 1) idle (one-few 16 1 (omega arith)) none-pending)
-    (writing (both none) (bind no-keys 1 (interval 0 2)) slots0 j1 (subst (AtMost 16) (sym (keys-one 1 (interval 0 2))) (one-few 16 1 (omega arith))) (one-piece 1 0 2 (omega arith) (omega arith)) j1-size j1-sized)
+    onward r10 (writeJournal 1 none) k11 (range-write g limits 1 none)
+    (day-counts sb0 false 2 0 false none [] (join no-ids 1) idle (one-few 16 1 (omega arith)) none-pending)
+    (writing (both none) (bind no-keys 1 (interval 0 2)) slots0 j1 (subst (AtMost 16) (sym (keys-one 1 (interval 0 2))) (one-few 16 1 (omega arith))))
 
 pub k12 : Takes g format limits s11 s12 (journalWritten 1)
 k12 =
@@ -53,9 +54,9 @@ k12 =
 
 pub r12 : Somewhere s12
 r12 =
-    onward r11 (journalWritten 1) k12
-    (day-limits sb0 false 2 0 false none [] no-ids idle (none-few 16) none-pending)
-    (quiet (both none) slots0 j1 j1-size j1-sized)
+    onward r11 (journalWritten 1) k12 (range-written g limits 1)
+    (day-counts sb0 false 2 0 false none [] no-ids idle (none-few 16) none-pending)
+    (quiet (both none) slots0 j1)
 
 pub k13 : Takes g format limits s12 s13 (commitLog 2)
 unfolding IncrementSuperblockCounter
@@ -64,9 +65,9 @@ k13 =
 
 pub r13 : Somewhere s13
 r13 =
-    onward r12 (commitLog 2) k13
-    (day-limits sb0 false 2 0 false none [] no-ids (busy log 2 sb1) (none-few 16) none-pending)
-    (quiet (toSlot true 2 sb1) slots0 j1 j1-size j1-sized)
+    onward r12 (commitLog 2) k13 (range-log g limits 2)
+    (day-counts sb0 false 2 0 false none [] no-ids (busy log 2 sb1) (none-few 16) none-pending)
+    (quiet (toSlot true 2 sb1) slots0 j1)
 
 pub k14 : Takes g format limits s13 s14 (land true)
 k14 =
@@ -74,9 +75,9 @@ k14 =
 
 pub r14 : Somewhere s14
 r14 =
-    onward r13 (land true) k14
-    (day-limits sb0 false 2 0 false none [] no-ids (busy log 2 sb1) (none-few 16) none-pending)
-    (quiet (toSlot true 2 sb1) slots1 j1 j1-size j1-sized)
+    onward r13 (land true) k14 (range-land g limits true)
+    (day-counts sb0 false 2 0 false none [] no-ids (busy log 2 sb1) (none-few 16) none-pending)
+    (quiet (toSlot true 2 sb1) slots1 j1)
 
 pub k15 : Takes g format limits s14 s15 (superblockWritten 2)
 k15 =
@@ -84,9 +85,9 @@ k15 =
 
 pub r15 : Somewhere s15
 r15 =
-    onward r14 (superblockWritten 2) k15
-    (day-limits sb1 true 2 0 false none [] no-ids idle (none-few 16) none-pending)
-    (quiet (both none) slots1 j1 j1-size j1-sized)
+    onward r14 (superblockWritten 2) k15 (range-committed g limits 2)
+    (day-counts sb1 true 2 0 false none [] no-ids idle (none-few 16) none-pending)
+    (quiet (both none) slots1 j1)
 
 -- frozen, a location received, and a location commit, which lands twice: the start goes on by two blocks
 pub k16 : Takes g format limits s15 s16 freeze
@@ -95,9 +96,9 @@ k16 =
 
 pub r16 : Somewhere s16
 r16 =
-    onward r15 freeze k16
-    (day-limits sb1 true 2 2 true none [] no-ids idle (none-few 16) none-pending)
-    (quiet (both none) slots1 j1 j1-size j1-sized)
+    onward r15 freeze k16 (range-freeze g limits)
+    (day-counts sb1 true 2 2 true none [] no-ids idle (none-few 16) none-pending)
+    (quiet (both none) slots1 j1)
 
 pub k17 : Takes g format limits s16 s17 (receive table2)
 k17 =
@@ -105,9 +106,9 @@ k17 =
 
 pub r17 : Somewhere s17
 r17 =
-    onward r16 (receive table2) k17
-    (day-limits sb1 true 2 2 true (some table2) [] no-ids idle (none-few 16) none-pending)
-    (quiet (both none) slots1 j1 j1-size j1-sized)
+    onward r16 (receive table2) k17 (range-receive g limits table2)
+    (day-counts sb1 true 2 2 true (some table2) [] no-ids idle (none-few 16) none-pending)
+    (quiet (both none) slots1 j1)
 
 pub k18 : Takes g format limits s17 s18 (commitLocation 3)
 unfolding IncrementSuperblockCounter JournalPosAdd
@@ -116,9 +117,9 @@ k18 =
 
 pub r18 : Somewhere s18
 r18 =
-    onward r17 (commitLocation 3) k18
-    (day-limits sb1 true 2 2 true (some table2) [] no-ids (busy location 3 sb2) (none-few 16) none-pending)
-    (quiet (toSlot false 3 sb2) slots1 j1 j1-size j1-sized)
+    onward r17 (commitLocation 3) k18 (range-location g limits 3)
+    (day-counts sb1 true 2 2 true (some table2) [] no-ids (busy location 3 sb2) (none-few 16) none-pending)
+    (quiet (toSlot false 3 sb2) slots1 j1)
 
 pub k19 : Takes g format limits s18 s19 (land false)
 k19 =
@@ -126,9 +127,9 @@ k19 =
 
 pub r19 : Somewhere s19
 r19 =
-    onward r18 (land false) k19
-    (day-limits sb1 true 2 2 true (some table2) [] no-ids (busy location 3 sb2) (none-few 16) none-pending)
-    (quiet (toSlot false 3 sb2) slots2 j1 j1-size j1-sized)
+    onward r18 (land false) k19 (range-land g limits false)
+    (day-counts sb1 true 2 2 true (some table2) [] no-ids (busy location 3 sb2) (none-few 16) none-pending)
+    (quiet (toSlot false 3 sb2) slots2 j1)
 
 pub k20 : Takes g format limits s19 s20 (land false)
 k20 =
@@ -136,9 +137,9 @@ k20 =
 
 pub r20 : Somewhere s20
 r20 =
-    onward r19 (land false) k20
-    (day-limits sb1 true 2 2 true (some table2) [] no-ids (busy location 3 sb2) (none-few 16) none-pending)
-    (quiet (toSlot false 3 sb2) slots2 j1 j1-size j1-sized)
+    onward r19 (land false) k20 (range-land g limits false)
+    (day-counts sb1 true 2 2 true (some table2) [] no-ids (busy location 3 sb2) (none-few 16) none-pending)
+    (quiet (toSlot false 3 sb2) slots2 j1)
 
 pub k21 : Takes g format limits s20 s21 (superblockWritten 3)
 k21 =
@@ -146,9 +147,9 @@ k21 =
 
 pub r21 : Somewhere s21
 r21 =
-    onward r20 (superblockWritten 3) k21
-    (day-limits sb2 false 0 0 false none [] no-ids idle (none-few 16) none-pending)
-    (quiet (both none) slots2 j1 j1-size j1-sized)
+    onward r20 (superblockWritten 3) k21 (range-committed g limits 3)
+    (day-counts sb2 false 0 0 false none [] no-ids idle (none-few 16) none-pending)
+    (quiet (both none) slots2 j1)
 
 -- one short entry, kept by a log commit
 pub k22 : Takes g format limits s21 s22 (add small)
@@ -157,9 +158,9 @@ k22 =
 
 pub r22 : Somewhere s22
 r22 =
-    onward r21 (add small) k22
-    (day-limits sb2 false 0 0 false none small no-ids idle (none-few 16) small-pending)
-    (quiet (both none) slots2 j1 j1-size j1-sized)
+    onward r21 (add small) k22 (range-add g limits small small-few small-fit)
+    (day-counts sb2 false 0 0 false none small no-ids idle (none-few 16) small-pending)
+    (quiet (both none) slots2 j1)
 
 pub k23 : Takes g format limits s22 s23 (writeJournal 4 none)
 unfolding JournalPosAdd j2
@@ -169,9 +170,9 @@ k23 =
 
 pub r23 : Somewhere s23
 r23 =
-    onward r22 (writeJournal 4 none) k23
-    (day-limits sb2 false 1 0 false none [] (join no-ids 4) idle (one-few 16 4 (omega arith)) none-pending)
-    (writing (both none) (bind no-keys 4 (interval 2 1)) slots2 j2 (subst (AtMost 16) (sym (keys-one 4 (interval 2 1))) (one-few 16 4 (omega arith))) (one-piece 4 2 1 (omega arith) (omega arith)) j2-size j2-sized)
+    onward r22 (writeJournal 4 none) k23 (range-write g limits 4 none)
+    (day-counts sb2 false 1 0 false none [] (join no-ids 4) idle (one-few 16 4 (omega arith)) none-pending)
+    (writing (both none) (bind no-keys 4 (interval 2 1)) slots2 j2 (subst (AtMost 16) (sym (keys-one 4 (interval 2 1))) (one-few 16 4 (omega arith))))
 
 pub k24 : Takes g format limits s23 s24 (journalWritten 4)
 k24 =
@@ -180,9 +181,9 @@ k24 =
 
 pub r24 : Somewhere s24
 r24 =
-    onward r23 (journalWritten 4) k24
-    (day-limits sb2 false 1 0 false none [] no-ids idle (none-few 16) none-pending)
-    (quiet (both none) slots2 j2 j2-size j2-sized)
+    onward r23 (journalWritten 4) k24 (range-written g limits 4)
+    (day-counts sb2 false 1 0 false none [] no-ids idle (none-few 16) none-pending)
+    (quiet (both none) slots2 j2)
 
 pub k25 : Takes g format limits s24 s25 (commitLog 5)
 unfolding IncrementSuperblockCounter
@@ -191,9 +192,9 @@ k25 =
 
 pub r25 : Somewhere s25
 r25 =
-    onward r24 (commitLog 5) k25
-    (day-limits sb2 false 1 0 false none [] no-ids (busy log 5 sb3) (none-few 16) none-pending)
-    (quiet (toSlot true 5 sb3) slots2 j2 j2-size j2-sized)
+    onward r24 (commitLog 5) k25 (range-log g limits 5)
+    (day-counts sb2 false 1 0 false none [] no-ids (busy log 5 sb3) (none-few 16) none-pending)
+    (quiet (toSlot true 5 sb3) slots2 j2)
 
 pub k26 : Takes g format limits s25 s26 (land true)
 k26 =
@@ -201,9 +202,9 @@ k26 =
 
 pub r26 : Somewhere s26
 r26 =
-    onward r25 (land true) k26
-    (day-limits sb2 false 1 0 false none [] no-ids (busy log 5 sb3) (none-few 16) none-pending)
-    (quiet (toSlot true 5 sb3) slots3 j2 j2-size j2-sized)
+    onward r25 (land true) k26 (range-land g limits true)
+    (day-counts sb2 false 1 0 false none [] no-ids (busy log 5 sb3) (none-few 16) none-pending)
+    (quiet (toSlot true 5 sb3) slots3 j2)
 
 pub k27 : Takes g format limits s26 s27 (superblockWritten 5)
 k27 =
@@ -211,9 +212,9 @@ k27 =
 
 pub r27 : Somewhere s27
 r27 =
-    onward r26 (superblockWritten 5) k27
-    (day-limits sb3 true 1 0 false none [] no-ids idle (none-few 16) none-pending)
-    (quiet (both none) slots3 j2 j2-size j2-sized)
+    onward r26 (superblockWritten 5) k27 (range-committed g limits 5)
+    (day-counts sb3 true 1 0 false none [] no-ids idle (none-few 16) none-pending)
+    (quiet (both none) slots3 j2)
 
 -- a write that passes the ring's end
 pub k28 : Takes g format limits s27 s28 (add large)
@@ -222,9 +223,9 @@ k28 =
 
 pub r28 : Somewhere s28
 r28 =
-    onward r27 (add large) k28
-    (day-limits sb3 true 1 0 false none large no-ids idle (none-few 16) large-pending)
-    (quiet (both none) slots3 j2 j2-size j2-sized)
+    onward r27 (add large) k28 (range-add g limits large large-few large-fit)
+    (day-counts sb3 true 1 0 false none large no-ids idle (none-few 16) large-pending)
+    (quiet (both none) slots3 j2)
 
 pub k29 : Takes g format limits s28 s29 (writeJournal 6 (some 7))
 unfolding JournalPosAdd j3

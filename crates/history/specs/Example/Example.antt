@@ -11,7 +11,7 @@ use lib.ListN.{getD, replicate}
 use Rattle.laws.specs.Cut.{flat}
 use Rattle.interval.specs.declared.interval.JournalInterval.{JournalInterval}
 use Rattle.interval.specs.Interval.{interval}
-use Rattle.interval.specs.Facts.{ContiguousJournalInterval, InCyclicRange}
+use Rattle.interval.specs.Facts.{InCyclicRange}
 use Rattle.interval.specs.Journal.{JournalBlock}
 use Rattle.superblock.specs.declared.superblock.Superblock.{Superblock}
 use Rattle.superblock.specs.Superblock.{IncrementSuperblockCounter}
@@ -28,12 +28,14 @@ use Rattle.history.specs.Simulation.Relation.{idle}
 use Rattle.history.specs.Calls.{tied-crash, Takes}
 use Rattle.history.specs.Reloaded.{shows}
 use Rattle.history.specs.Whole.{Trace, Loaded, books-append, books-loads}
+use Rattle.codec.specs.Codec.{Sized}
 use Rattle.codec.specs.Format.{format}
-use Rattle.history.specs.Loads.Superblocks.{resting, Sized, limits-room}
+use Rattle.history.specs.Loads.Superblocks.{resting, limits-room}
 use Rattle.history.specs.Demand.{demand-3}
 use Rattle.history.specs.Loads.Loads.{trace-append, crash-loads}
-use Rattle.history.specs.Example.Load.{g, table1, table2, sb0, first, init, init-super, Somewhere, onward, none-pending, day-limits, started, morning, came-up}
-use Rattle.history.specs.Example.States.{small, large, one-block, two-blocks, writing, sb3, slots3, j3, j3-size, j3-sized, two-few, s10, s11, s12, s13, s14, s15, s16, s17, s18, s19, s20, s21, s22, s23, s24, s25, s26, s27, s28, s29}
+use Rattle.history.specs.Example.Load.{g, table1, table2, sb0, first, init, init-super, Somewhere, onward, none-pending, day-counts, started, morning, came-up}
+use Rattle.history.specs.Example.Range.{range-write}
+use Rattle.history.specs.Example.States.{small, large, one-block, two-blocks, writing, sb3, slots3, j3, j3-size, two-few, s10, s11, s12, s13, s14, s15, s16, s17, s18, s19, s20, s21, s22, s23, s24, s25, s26, s27, s28, s29}
 use Rattle.history.specs.Example.Day.{k10, k11, k12, k13, k14, k15, k16, k17, k18, k19, k20, k21, k22, k23, k24, k25, k26, k27, k28, r28, k29}
 
 abbrev flying : Map JournalInterval
@@ -45,14 +47,10 @@ both-pieces P h k = values-bind P (bind no-keys 6 (interval 3 1)) 7 (interval 0 
 
 r29 : Somewhere s29
 r29 =
-    onward r28 (writeJournal 6 (some 7)) k29
-    (day-limits sb3 true 3 0 false none [] (join (join no-ids 6) 7) idle two-few none-pending)
+    onward r28 (writeJournal 6 (some 7)) k29 (range-write g limits 6 (some 7))
+    (day-counts sb3 true 3 0 false none [] (join (join no-ids 6) 7) idle two-few none-pending)
     (writing (both none) flying slots3 j3
-    (subst (AtMost 16) (sym (keys-bind (bind no-keys 6 (interval 3 1)) 7 (interval 0 1) ∙ ap (λ (s : Ids). join s 7) (keys-bind no-keys 6 (interval 3 1)))) two-few)
-    (both-pieces (ContiguousJournalInterval g)
-    (record { valid = record { start-in = omega arith; len-in = omega arith }; end-in = omega arith })
-    (record { valid = record { start-in = omega arith; len-in = omega arith }; end-in = omega arith }))
-    j3-size j3-sized)
+    (subst (AtMost 16) (sym (keys-bind (bind no-keys 6 (interval 3 1)) 7 (interval 0 1) ∙ ap (λ (s : Ids). join s 7) (keys-bind no-keys 6 (interval 3 1)))) two-few))
 
 -- the crash leaves blocks 3 and 0 unreadable, as its picture has them
 abbrev picture : List (Option JournalBlock)
@@ -66,8 +64,8 @@ s30 = record { machine = M.Variables.LoadingSuperblock M.initial; disk = resting
 
 j4-sized : Sized j4
 j4-sized zero b e = none-some refl e
-j4-sized (suc zero) b e = j3-sized 1 b e
-j4-sized (suc (suc zero)) b e = j3-sized 2 b e
+j4-sized (suc zero) b e = r29 .1 .meets .disk .shape .block-size 1 b e
+j4-sized (suc (suc zero)) b e = r29 .1 .meets .disk .shape .block-size 2 b e
 j4-sized (suc (suc (suc zero))) b e = none-some refl e
 j4-sized (suc (suc (suc (suc i)))) b e = none-some refl e
 

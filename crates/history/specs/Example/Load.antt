@@ -12,6 +12,7 @@ use Rattle.laws.specs.Fold.{sum}
 use Rattle.laws.specs.Cut.{lengths}
 use Rattle.layout.specs.declared.geometry.Geometry.{Geometry}
 use Rattle.layout.specs.declared.location.Location.{Location}
+use Rattle.layout.specs.Geometry.{ValidGeometry}
 use Rattle.layout.specs.Laws.{ValidIndirectionTableLocation}
 use Rattle.interval.specs.Interval.{JournalFrontInterval, JournalBackInterval}
 use Rattle.interval.specs.Journal.{JournalBlock}
@@ -19,13 +20,14 @@ use Rattle.superblock.specs.declared.superblock.Superblock.{Superblock}
 use Rattle.superblock.specs.Superblock.{IncrementSuperblockCounter, increments1, SelectSuperblockIndex, SelectSuperblock}
 use Rattle.superblock.specs.Laws.{WFSuperblock}
 use Rattle.laws.specs.Sets.{Ids, no-ids, no-keys, AtMost, none-few, Two, both, at, put, none-some, at-both}
-use Rattle.codec.specs.Codec.{JournalEntry}
-use Rattle.source.specs.JournalDisk.{ReqId, RespReadSuperblockOp, NoDiskOp}
+use Rattle.codec.specs.Codec.{JournalEntry, Sized}
+use Rattle.source.specs.JournalDisk.{RespReadSuperblockOp, NoDiskOp}
 use Rattle.source.specs.JournalCache as M
 use Rattle.source.specs.JournalCache.{SuperblockReadResult, SuperblockSuccess, SuperblockUnfinished, SuperblockCorruption, PageInSuperblockRespStep, FinishLoadingSuperblockPhaseStep, FinishLoadingOtherPhaseStep}
 use Rattle.source.specs.JournalSystem as Y
 use Rattle.source.specs.JournalSystem.{SuperblockOfDisk}
-use Rattle.source.specs.Limits.{limits, EntriesFit, MachineLimits, DiskLimits}
+use Rattle.source.specs.Limits.{limits, MachineCounts, DiskCounts}
+use Rattle.source.specs.Laws.Format.{limits-fit}
 use Rattle.source.specs.Departures.{Source, AskAgainStep, MachineStep}
 use Rattle.history.specs.Ledger.{Call, superblockRead, finishSuperblocks, finishOther, askAgain, readSuperblock, Ledger, tell}
 use Rattle.history.specs.Journal.Slots.{Slots}
@@ -33,9 +35,10 @@ use Rattle.history.specs.Simulation.Relation.{Flight, idle}
 use Rattle.history.specs.Calls.{tied-corrupt, tied-again, tied-finish-superblocks, tied-finish-other, Takes}
 use Rattle.history.specs.Whole.{firstParity, Trace}
 use Rattle.codec.specs.Format.{format}
-use Rattle.history.specs.Loads.Superblocks.{reading, resting, Sized, limits-room, disk-meets, Read, read-put, superblocksAt, one, one-differs, oneIds, ones-few, ones-waiting, ones-answered, slot-ask, slot-answer}
+use Rattle.history.specs.Loads.Superblocks.{reading, resting, limits-room, Read, read-put, superblocksAt, one, oneIds, ones-few, ones-waiting, ones-answered, slot-ask, slot-answer}
 use Rattle.history.specs.Loads.Journal.{otherAt}
 use Rattle.history.specs.Reach.Reachable.{Reached, reached-init, reached-step}
+use Rattle.history.specs.Example.Range.{InRange, range-read, range-superblock, range-again, range-finish-superblocks, range-finish-other}
 
 abbrev pub g : Geometry
 g = record { blocks = 4; table = 4096 }
@@ -58,6 +61,9 @@ j0 = none ∷ none ∷ none ∷ none ∷ []
 
 abbrev pub first : Y.Variables
 first = record { machine = M.Variables.LoadingSuperblock M.initial; disk = resting slots0 j0 }
+
+g-valid : ValidGeometry g
+g-valid = record { some-block = omega arith; most-blocks = omega arith; some-table = omega arith; most-table = omega arith }
 
 pub table1-valid : ValidIndirectionTableLocation g table1
 table1-valid = record { addr-valid = inl refl; len-from = omega arith; len-to = omega arith }
@@ -102,22 +108,20 @@ selected0 = record { values = both sb0; holds = λ b. at-both (some sb0) b ∙ a
 abbrev pub Somewhere : Y.Variables → Type 0
 Somewhere s = (l : Ledger) × Reached g format limits (firstParity g format first table1 init) s l
 
-pub onward : {s t : Y.Variables} → Somewhere s → (x : Call) → Takes g format limits s t x → MachineLimits g limits (t .machine) → DiskLimits g limits (t .disk) → Somewhere t
-onward {s = s} {t = t} r x k lm ld = (tell g format x (r .0), reached-step g format limits (firstParity g format first table1 init) s t (r .0) x (r .1) k lm ld)
+-- a call in range, to a state whose counts are within the limits
+pub onward : {s t : Y.Variables} → Somewhere s → (x : Call) → Takes g format limits s t x → InRange g limits x → MachineCounts limits (t .machine) → DiskCounts limits (t .disk) → Somewhere t
+onward {s = s} {t = t} r x k range lm ld = (
+  tell g format x (r .0),
+  reached-step g format limits limits-fit (firstParity g format first table1 init) s t (r .0) x (r .1) k
+      (record { geometry = g-valid; arguments = range (k .event) (k .tied); machine = lm; disk = ld }),
+)
 
--- the disk while it is only read
-disk-reading : (reads : Two Ids) → ((which : Bool) → AtMost 8 (at reads which)) → DiskLimits g limits (reading reads no-keys slots0 j0)
-disk-reading reads few = disk-meets g limits slots0 j0 false sb0 selected0 refl j0-sized reads no-keys few (none-few 8) (λ id u e. none-some refl e)
+-- the disk while only superblocks are read
+disk-reading : (reads : Two Ids) → ((which : Bool) → AtMost 8 (at reads which)) → DiskCounts limits (reading reads no-keys slots0 j0)
+disk-reading reads few = record { superblock-reads-few = few; journal-reads-few = none-few 8; journal-writes-few = none-few 16 }
 
 rest-few : (which : Bool) → AtMost 8 (at (both no-ids) which)
 rest-few which = subst (AtMost 8) (sym (at-both no-ids which)) (none-few 8)
-
--- the machine while it reads its superblocks
-slots-limits : (reads : Two (Option ReqId)) (results : Two SuperblockReadResult) → ((id : ReqId) → at reads false ≡ some id → at reads true ≡ some id → ⊥) → MachineLimits g limits (superblocksAt reads results)
-slots-limits reads results f = record { sync-few = none-few 32; reads-differ = f }
-
-none-differs : (id : ReqId) → at (both none) false ≡ some id → at (both none) true ≡ some id → ⊥
-none-differs id p q = none-some refl p
 
 abbrev reading1 : Y.Variables
 reading1 = record { machine = superblocksAt (one false) (both SuperblockUnfinished); disk = reading (oneIds false) no-keys slots0 j0 }
@@ -136,7 +140,7 @@ r0 : Somewhere first
 r0 = (_, reached-init g format limits first table1 init j0-sized)
 
 r1 : Somewhere reading1
-r1 = onward r0 (readSuperblock false 1) k1 (slots-limits (one false) (both SuperblockUnfinished) (one-differs false)) (disk-reading (oneIds false) (λ b. ones-few 8 false b (omega arith)))
+r1 = onward r0 (readSuperblock false 1) k1 (range-read g limits false 1) (record { sync-few = none-few 32 }) (disk-reading (oneIds false) (λ b. ones-few 8 false b (omega arith)))
 
 k2 : Takes g format limits reading1 corrupt1 (superblockRead false 1 false)
 k2 =
@@ -155,7 +159,7 @@ k2 =
     }
 
 r2 : Somewhere corrupt1
-r2 = onward r1 (superblockRead false 1 false) k2 (slots-limits (both none) (put (both SuperblockUnfinished) false SuperblockCorruption) none-differs) (disk-reading (both no-ids) rest-few)
+r2 = onward r1 (superblockRead false 1 false) k2 (range-superblock g limits false 1 false) (record { sync-few = none-few 32 }) (disk-reading (both no-ids) rest-few)
 
 -- asked again
 k3 : Takes g format limits corrupt1 first (askAgain false)
@@ -167,7 +171,7 @@ k3 =
     }
 
 r3 : Somewhere first
-r3 = onward r2 (askAgain false) k3 (slots-limits (both none) (both SuperblockUnfinished) none-differs) (disk-reading (both no-ids) rest-few)
+r3 = onward r2 (askAgain false) k3 (range-again g limits false) (record { sync-few = none-few 32 }) (disk-reading (both no-ids) rest-few)
 
 -- both slots whole
 abbrev results1 : Two SuperblockReadResult
@@ -195,28 +199,28 @@ k4 : Takes g format limits first reading1 (readSuperblock false 1)
 k4 = k1
 
 r4 : Somewhere reading1
-r4 = onward r3 (readSuperblock false 1) k4 (slots-limits (one false) (both SuperblockUnfinished) (one-differs false)) (disk-reading (oneIds false) (λ b. ones-few 8 false b (omega arith)))
+r4 = onward r3 (readSuperblock false 1) k4 (range-read g limits false 1) (record { sync-few = none-few 32 }) (disk-reading (oneIds false) (λ b. ones-few 8 false b (omega arith)))
 
 k5 : Takes g format limits reading1 read1 (superblockRead false 1 true)
 unfolding selected0
 k5 = slot-answer g format limits limits-room slots0 j0 false sb0 selected0 refl j0-sized false (both SuperblockUnfinished) unread refl
 
 r5 : Somewhere read1
-r5 = onward r4 (superblockRead false 1 true) k5 (slots-limits (both none) results1 none-differs) (disk-reading (both no-ids) rest-few)
+r5 = onward r4 (superblockRead false 1 true) k5 (range-superblock g limits false 1 true) (record { sync-few = none-few 32 }) (disk-reading (both no-ids) rest-few)
 
 k6 : Takes g format limits read1 reading2 (readSuperblock true 1)
 unfolding selected0
 k6 = slot-ask g format limits limits-room slots0 j0 false sb0 selected0 refl j0-sized true results1 half-read refl
 
 r6 : Somewhere reading2
-r6 = onward r5 (readSuperblock true 1) k6 (slots-limits (one true) results1 (one-differs true)) (disk-reading (oneIds true) (λ b. ones-few 8 true b (omega arith)))
+r6 = onward r5 (readSuperblock true 1) k6 (range-read g limits true 1) (record { sync-few = none-few 32 }) (disk-reading (oneIds true) (λ b. ones-few 8 true b (omega arith)))
 
 k7 : Takes g format limits reading2 read2 (superblockRead true 1 true)
 unfolding selected0
 k7 = slot-answer g format limits limits-room slots0 j0 false sb0 selected0 refl j0-sized true results1 half-read refl
 
 r7 : Somewhere read2
-r7 = onward r6 (superblockRead true 1 true) k7 (slots-limits (both none) results2 none-differs) (disk-reading (both no-ids) rest-few)
+r7 = onward r6 (superblockRead true 1 true) k7 (range-superblock g limits true 1 true) (record { sync-few = none-few 32 }) (disk-reading (both no-ids) rest-few)
 
 k8 : Takes g format limits read2 chosen finishSuperblocks
 unfolding SelectSuperblock SelectSuperblockIndex increments1 IncrementSuperblockCounter
@@ -237,9 +241,7 @@ k8 =
 
 r8 : Somewhere chosen
 r8 =
-    onward r7 finishSuperblocks k8
-    (record { sync-few = none-few 32; reads-differ = none-differs; read-or-in = λ b id jr p q. none-some (at-both none b) p; piece-len = λ b jr v p q. none-some (at-both none b) p })
-    (disk-reading (both no-ids) rest-few)
+    onward r7 finishSuperblocks k8 (range-finish-superblocks g limits) (record { sync-few = none-few 32 }) (disk-reading (both no-ids) rest-few)
 
 -- a machine of this day at Ready: nothing is frozen, nothing to replay, no sync request
 abbrev pub dayAt : Superblock → Bool → ℕ → ℕ → Bool → Option Location → List JournalEntry → Ids → Flight → M.ReadyVariables
@@ -265,27 +267,16 @@ dayAt sb which len position isFrozen loc memory ids f =
 pub record Pending (es : List JournalEntry) : Type 0 where
   pub few : length es ≤ 1024
   pub small : sum (lengths es) ≤ 65536
-  pub fit : EntriesFit limits es
 
 pub none-pending : Pending []
 unfolding sum lengths
-none-pending = record { few = omega arith; small = omega arith; fit = record { some-byte = λ i h. absurd (omega arith); most-bytes = λ i h. absurd (omega arith) } }
+none-pending = record { few = omega arith; small = omega arith }
 
-pub day-limits : (sb : Superblock) (which : Bool) (len position : ℕ) (isFrozen : Bool) (loc : Option Location) (memory : List JournalEntry) (ids : Ids) (f : Flight) → AtMost 16 ids → Pending memory
-    → MachineLimits g limits (M.Variables.Ready (dayAt sb which len position isFrozen loc memory ids f))
+pub day-counts : (sb : Superblock) (which : Bool) (len position : ℕ) (isFrozen : Bool) (loc : Option Location) (memory : List JournalEntry) (ids : Ids) (f : Flight) → AtMost 16 ids → Pending memory
+    → MachineCounts limits (M.Variables.Ready (dayAt sb which len position isFrozen loc memory ids f))
 unfolding sum lengths
-day-limits sb which len position isFrozen loc memory ids f few p =
-    record {
-      sync-few = none-few 32;
-      writes-few = few;
-      pending-few = omega (arith, p .few);
-      pending-small = omega (arith, p .small);
-      frozen-fit = none-pending .fit;
-      memory-fit = p .fit;
-      replay-few = omega arith;
-      replay-small = omega arith;
-      replay-fit = none-pending .fit;
-    }
+day-counts sb which len position isFrozen loc memory ids f few p =
+    record { sync-few = none-few 32; writes-few = few; pending-few = omega (arith, p .few); pending-small = omega (arith, p .small) }
 
 abbrev pub started : Y.Variables
 started = record { machine = M.Variables.Ready (dayAt sb0 false 0 0 false none [] no-ids idle); disk = resting slots0 j0 }
@@ -332,7 +323,7 @@ k9 =
     }
 
 pub r9 : Somewhere started
-r9 = onward r8 finishOther k9 (day-limits sb0 false 0 0 false none [] no-ids idle (none-few 16) none-pending) (disk-reading (both no-ids) rest-few)
+r9 = onward r8 finishOther k9 (range-finish-other g limits) (day-counts sb0 false 0 0 false none [] no-ids idle (none-few 16) none-pending) (disk-reading (both no-ids) rest-few)
 
 -- the first half, as a list of calls that were all taken
 unfoldable pub morning : List Call

@@ -1,37 +1,31 @@
 -- The example day's states: two lots of entries, of one block and of two, the superblocks and journals, and the store after each call.
-use Prim.Native.Nat.{ℕ, zero, suc, _+_, _≤_, _<_}
-use mathlib.Core.Bool.{true, false, cond}
-use mathlib.Core.Path.{_≡_, refl, sym, _∙_, ap, subst}
+use Prim.Native.Nat.{ℕ, zero, suc, _≤_}
+use mathlib.Core.Bool.{true, false}
+use mathlib.Core.Path.{_≡_, refl, sym, subst}
 use mathlib.Core.List.{List, [], _∷_}
-use mathlib.Core.Option.{Option, none, some, Option·some-injective}
+use mathlib.Core.Option.{Option, none, some}
 use native.Mathlib.Omega.{arith}
-use lib.Dec.{ltb}
-use lib.ListN.{length, getD, replicate, length-replicate, getD-replicate, List·getD-eq-default}
-use Rattle.laws.specs.Choice.{also, by-ltb, split-le}
+use lib.ListN.{length, replicate}
+use Rattle.laws.specs.Choice.{also}
 use Rattle.laws.specs.Fold.{sum, every}
-use Rattle.laws.specs.Ring.{off}
 use Rattle.laws.specs.Cut.{lengths}
 use Rattle.interval.specs.declared.interval.JournalInterval.{JournalInterval}
 use Rattle.interval.specs.Interval.{interval}
-use Rattle.interval.specs.Facts.{ValidJournalInterval, ContiguousJournalInterval}
 use Rattle.interval.specs.Journal.{JournalBlock}
-use Rattle.interval.specs.Laws.{splice-value-off}
-use Rattle.interval.specs.Update.{updated, updated-at, length-updated}
+use Rattle.interval.specs.Update.{updated, length-updated}
 use Rattle.superblock.specs.declared.superblock.Superblock.{Superblock}
-use Rattle.range.specs.Form.{blocksAt, okLength}
-use Rattle.laws.specs.Sets.{no-ids, join, Map, no-keys, bind, keys, AtMost, none-few, idsOf, Two, both, none-some, at-both}
-use Rattle.laws.specs.Maps.{Values, values-bind}
-use Rattle.codec.specs.Codec.{JournalEntry}
+use Rattle.range.specs.Form.{okLength}
+use Rattle.laws.specs.Sets.{no-ids, join, Map, no-keys, bind, keys, AtMost, none-few, idsOf, Two, both, at-both}
+use Rattle.codec.specs.Codec.{JournalEntry, EntriesFit}
 use Rattle.source.specs.JournalDisk as D
 use Rattle.source.specs.JournalDisk.{ReqWriteSuperblockId}
 use Rattle.source.specs.JournalSystem as Y
-use Rattle.source.specs.Limits.{limits, DiskLimits}
+use Rattle.source.specs.Limits.{limits, DiskCounts}
 use Rattle.history.specs.Ledger.{log, location}
 use Rattle.history.specs.Simulation.Relation.{idle, busy, toSlot}
-use Rattle.codec.specs.Format.{format, goodEntries, encodeBlocks, length-encodeBlocks, lengths-encodeBlocks}
-use Rattle.history.specs.Loads.Superblocks.{Sized}
+use Rattle.codec.specs.Format.{format, goodEntries, encodeBlocks, length-encodeBlocks}
 use Rattle.history.specs.Example.Can.{store}
-use Rattle.history.specs.Example.Load.{g, table1, table2, sb0, slots0, j0, j0-sized, first, dayAt, Pending, started}
+use Rattle.history.specs.Example.Load.{g, table1, table2, sb0, slots0, j0, dayAt, Pending, started}
 
 -- one entry of one byte, and sixteen of 255: one block and two
 unfoldable pub small : List JournalEntry
@@ -56,57 +50,34 @@ pub large-good : format .good large ≡ true
 unfolding large goodEntries every lengths okLength also
 large-good = refl
 
--- they are within the limits of what is pending
+-- they are within the limits of what is pending and of what a step brings
 pub small-pending : Pending small
 unfolding small sum lengths
-small-pending = record { few = omega arith; small = omega arith; fit = record { some-byte = low; most-bytes = high } }
-  where
-    low : (i : ℕ) → i < 1 → 1 ≤ length (getD small i [])
-    low zero h = omega arith
-    low (suc i) h = absurd (omega arith)
+small-pending = record { few = omega arith; small = omega arith }
 
-    high : (i : ℕ) → i < 1 → length (getD small i []) ≤ 255
-    high zero h = omega arith
-    high (suc i) h = absurd (omega arith)
+pub small-few : length small ≤ 16
+unfolding small
+small-few = omega arith
+
+pub small-fit : EntriesFit 255 small
+unfolding small
+small-fit = (record { some-byte = omega arith; most-bytes = omega arith }, tt)
 
 pub large-pending : Pending large
 unfolding large sum lengths
-large-pending =
-    record {
-      few = omega arith;
-      small = omega arith;
-      fit = record { some-byte = λ i h. rw (at-large i h) (omega arith); most-bytes = λ i h. rw (at-large i h) (omega arith) };
-    }
+large-pending = record { few = omega arith; small = omega arith }
+
+pub large-few : length large ≤ 16
+unfolding large
+large-few = omega arith
+
+pub large-fit : EntriesFit 255 large
+unfolding large
+large-fit = long 16
   where
-    at-large : (i : ℕ) → i < length large → length (getD large i []) ≡ 255
-    at-large i h = ap length (getD-replicate 16 i (replicate 255 66) [] (omega arith)) ∙ length-replicate {A = ℕ} 255 66
-
-pub at-lengths : (bs : List JournalBlock) (k : ℕ) → k < length bs → getD (lengths bs) k 0 ≡ length (getD bs k [])
-unfolding lengths
-at-lengths [] k h = absurd (omega arith)
-at-lengths (b ∷ bs) zero h = refl
-at-lengths (b ∷ bs) (suc k) h = at-lengths bs k (omega arith)
-
--- blocks of a range have their size, and a write of them keeps the journal's
-pub block-size : (es : List JournalEntry) (k : ℕ) → k < length (encodeBlocks es) → length (getD (encodeBlocks es) k []) ≡ 4096
-block-size es k h =
-    sym (at-lengths (encodeBlocks es) k h)
-    ∙ ap (λ (l : List ℕ). getD l k 0) (lengths-encodeBlocks es)
-    ∙ getD-replicate (blocksAt 1 es) k 4096 0 (omega (arith, h, length-encodeBlocks es))
-
-pub sized-updated : (j : List (Option JournalBlock)) (v : JournalInterval) (es : List JournalEntry) → length j ≡ 4 → ValidJournalInterval g v → v .len ≡ length (encodeBlocks es) → Sized j
-    → Sized (updated j v (encodeBlocks es))
-sized-updated j v es hj f hn s i b e =
-    split-le 4 i
-    (λ h. none-some (List·getD-eq-default (updated j v (encodeBlocks es)) none (omega (arith, h, length-updated g j v (encodeBlocks es) hj f hn))) e)
-    (λ h.
-    go h (sym (updated-at g j v (encodeBlocks es) hj f hn i (omega (arith, h, hj)) ∙ splice-value-off g v f i h j (encodeBlocks es)) ∙ e))
-  where
-    go : i < 4 → cond (ltb (off 4 (v .start) i) (v .len)) (some (getD (encodeBlocks es) (off 4 (v .start) i) [])) (getD j i none) ≡ some b → length b ≡ 4096
-    go h =
-        by-ltb (λ (o : Option JournalBlock). o ≡ some b → length b ≡ 4096) (off 4 (v .start) i) (v .len) _ _
-        (λ l q. ap length (Option·some-injective b _ (sym q)) ∙ block-size es (off 4 (v .start) i) (omega (arith, l, hn)))
-        (λ l q. s i b q)
+    long : (n : ℕ) → EntriesFit 255 (replicate n (replicate 255 66))
+    long zero = tt
+    long (suc n) = (record { some-byte = omega arith; most-bytes = omega arith }, long n)
 
 -- the disk of this day: nothing is read
 abbrev pub dayDisk : Two (Option ReqWriteSuperblockId) → Map JournalInterval → Two (Option Superblock) → List (Option JournalBlock) → D.Variables
@@ -114,20 +85,16 @@ dayDisk sw writes slots j =
     record { reqReadSuperblocks = both no-ids; reqReadJournals = no-keys; reqWriteSuperblocks = sw; reqWriteJournals = writes; superblocks = slots; journal = j }
 
 pub writing : (sw : Two (Option ReqWriteSuperblockId)) (writes : Map JournalInterval) (slots : Two (Option Superblock)) (j : List (Option JournalBlock)) → AtMost 16 (keys writes)
-    → Values (ContiguousJournalInterval g) writes → length j ≡ 4 → Sized j → DiskLimits g limits (dayDisk sw writes slots j)
-writing sw writes slots j few contiguous size sized =
+    → DiskCounts limits (dayDisk sw writes slots j)
+writing sw writes slots j few =
     record {
       superblock-reads-few = λ which. subst (AtMost 8) (sym (at-both no-ids which)) (none-few 8);
       journal-reads-few = none-few 8;
       journal-writes-few = few;
-      reads-contiguous = λ id v e. none-some refl e;
-      writes-contiguous = contiguous;
-      size = size;
-      block-size = sized;
     }
 
-pub quiet : (sw : Two (Option ReqWriteSuperblockId)) (slots : Two (Option Superblock)) (j : List (Option JournalBlock)) → length j ≡ 4 → Sized j → DiskLimits g limits (dayDisk sw no-keys slots j)
-quiet sw slots j size sized = writing sw no-keys slots j (none-few 16) (λ id v e. none-some refl e) size sized
+pub quiet : (sw : Two (Option ReqWriteSuperblockId)) (slots : Two (Option Superblock)) (j : List (Option JournalBlock)) → DiskCounts limits (dayDisk sw no-keys slots j)
+quiet sw slots j = writing sw no-keys slots j (none-few 16)
 
 -- superblocks, slots and journals
 abbrev pub sb1 : Superblock
@@ -155,20 +122,12 @@ pub j1-size : length j1 ≡ 4
 unfolding j1
 j1-size = length-updated g j0 (interval 0 2) (encodeBlocks large) refl (record { start-in = omega arith; len-in = omega arith }) (sym two-blocks)
 
-pub j1-sized : Sized j1
-unfolding j1
-j1-sized = sized-updated j0 (interval 0 2) large refl (record { start-in = omega arith; len-in = omega arith }) (sym two-blocks) j0-sized
-
 unfoldable pub j2 : List (Option JournalBlock)
 j2 = updated j1 (interval 2 1) (encodeBlocks small)
 
 pub j2-size : length j2 ≡ 4
 unfolding j2
 j2-size = length-updated g j1 (interval 2 1) (encodeBlocks small) j1-size (record { start-in = omega arith; len-in = omega arith }) (sym one-block)
-
-pub j2-sized : Sized j2
-unfolding j2
-j2-sized = sized-updated j1 (interval 2 1) small j1-size (record { start-in = omega arith; len-in = omega arith }) (sym one-block) j1-sized
 
 unfoldable pub j3 : List (Option JournalBlock)
 j3 = updated j2 (interval 3 2) (encodeBlocks large)
@@ -177,16 +136,9 @@ pub j3-size : length j3 ≡ 4
 unfolding j3
 j3-size = length-updated g j2 (interval 3 2) (encodeBlocks large) j2-size (record { start-in = omega arith; len-in = omega arith }) (sym two-blocks)
 
-pub j3-sized : Sized j3
-unfolding j3
-j3-sized = sized-updated j2 (interval 3 2) large j2-size (record { start-in = omega arith; len-in = omega arith }) (sym two-blocks) j2-sized
-
 pub two-few : AtMost 16 (join (join no-ids 6) 7)
 unfolding idsOf
 two-few = record { listed = 7 ∷ 6 ∷ []; few = omega arith; all = λ i e. e }
-
-pub one-piece : (id start len : ℕ) → start < 4 → start + len ≤ 4 → Values (ContiguousJournalInterval g) (bind no-keys id (interval start len))
-one-piece id start len h k = values-bind (ContiguousJournalInterval g) no-keys id (interval start len) (λ i v e. none-some refl e) (record { valid = record { start-in = h; len-in = omega arith }; end-in = k })
 
 abbrev pub s10 : Y.Variables
 s10 = store (dayAt sb0 false 0 0 false none large no-ids idle) (dayDisk (both none) no-keys slots0 j0)

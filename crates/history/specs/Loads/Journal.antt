@@ -4,7 +4,7 @@ use mathlib.Core.Bool.{Bool, true, false, not}
 use mathlib.Core.Path.{_≡_, refl, sym, _∙_, ap, subst}
 use mathlib.Core.List.{List, [], _∷_}
 use mathlib.Core.Option.{Option, none, some, Option·some-injective}
-use lib.ListN.{length, length-map}
+use lib.ListN.{length}
 use Rattle.laws.specs.Choice.{also, also-left, also-right}
 use Rattle.laws.specs.Fold.{every, every-append}
 use Rattle.layout.specs.declared.geometry.Geometry.{Geometry}
@@ -12,17 +12,19 @@ use Rattle.interval.specs.declared.interval.JournalInterval.{JournalInterval}
 use Rattle.interval.specs.Interval.{interval, JournalFrontInterval, JournalBackInterval}
 use Rattle.interval.specs.Facts.{ValidJournalInterval, ContiguousJournalInterval}
 use Rattle.interval.specs.Journal.{JournalBlock, CyclicSlice, fullRange, readable}
-use Rattle.interval.specs.Laws.{Contiguous?, parts-fit, sliceOf, front-back-slice, length-slice}
+use Rattle.interval.specs.Laws.{Contiguous?, parts-fit, sliceOf, front-back-slice}
 use Rattle.superblock.specs.declared.superblock.Superblock.{Superblock}
 use Rattle.superblock.specs.Laws.{WFSuperblock}
 use Rattle.laws.specs.Sets.{no-ids, no-keys, bind, AtMost, none-few, Two, both, at, put, none-some, same-value, at-both, at-put, bind-here}
 use Rattle.laws.specs.Maps.{values-bind, keys-one, bind-unbind, one-few}
-use Rattle.codec.specs.Codec.{JournalRange, Codec, Disk-JournalRange}
+use Rattle.codec.specs.Codec.{JournalRange, Sized, Codec, Disk-JournalRange}
+use Rattle.codec.specs.Sizes.{sized-held}
 use Rattle.source.specs.JournalDisk.{ReqId, ReqReadJournalOp, RespReadJournalOp}
 use Rattle.source.specs.JournalCache as M
 use Rattle.source.specs.JournalCache.{PageInJournalReqStep, PageInJournalRespStep, journalIntervalOfSuperblock, unlessIs}
 use Rattle.source.specs.JournalSystem as Y
-use Rattle.source.specs.Limits.{Limits, MachineMeets, bindRead, awaitedJournalReads}
+use Rattle.source.specs.Limits.{Limits}
+use Rattle.source.specs.Meets.{MachineMeets, bindRead, awaitedJournalReads}
 use Rattle.source.specs.Departures.{Source, MachineStep}
 use Rattle.history.specs.Ledger.{readJournal, journalRead}
 use Rattle.codec.specs.Ranges.{whole, full-whole}
@@ -31,7 +33,7 @@ use Rattle.history.specs.Simulation.Relation.{Pieces}
 use Rattle.history.specs.Simulation.Loading.{pieces-put}
 use Rattle.history.specs.Calls.{tied-page, tied-paged, Takes}
 use Rattle.history.specs.Whole.{Trace}
-use Rattle.history.specs.Loads.Superblocks.{reading, resting, Sized, Room, disk-meets, joined, one, one-only, one-differs, one-answered}
+use Rattle.history.specs.Loads.Superblocks.{reading, resting, Room, disk-meets, joined, one, one-only, one-differs, one-answered}
 
 -- the pieces of a superblock's interval
 module _ (g : Geometry) (j : List (Option JournalBlock)) (v : Superblock) (wf : WFSuperblock g v) (size : length j ≡ g .blocks) where
@@ -93,13 +95,12 @@ module _ (g : Geometry) (C : Codec) (L : Limits) (room : Room L) (slots : Two (O
   machine-other reads pieces owned held asked differ =
       record {
         inv = record { superblock-wf = wf; read-interval = λ b id e. asked b id e .1; piece-interval = owned };
-        limits =
+        counts = record { sync-few = none-few (L .syncReqs) };
+        shape =
             record {
-              sync-few = none-few (L .syncReqs);
               reads-differ = differ;
               read-or-in = λ b id jr p q. none-some (asked b id p .0) q;
-              piece-len = λ b jr u p q.
-                  sym (length-map jr some) ∙ ap length (held b jr u p q) ∙ length-slice g j size u (piece-contiguous g j v wf size b u q .valid);
+              piece-size = λ b jr u p q. sized-held g j size sized u (piece-contiguous g j v wf size b u q .valid) jr (held b jr u p q);
             };
       }
 

@@ -17,7 +17,7 @@ use Rattle.superblock.specs.declared.superblock.Superblock.{Superblock}
 use Rattle.superblock.specs.Superblock.{SelectSuperblock}
 use Rattle.superblock.specs.Laws.{WFSuperblock}
 use Rattle.laws.specs.Sets.{no-ids, no-keys, AtMost, none-few, Two, both, at, put, none-some, at-both, at-put, at-put-other}
-use Rattle.codec.specs.Codec.{JournalRange, Codec, Disk-JournalRange}
+use Rattle.codec.specs.Codec.{JournalRange, Sized, Codec, Disk-JournalRange}
 use Rattle.source.specs.JournalDisk.{NoDiskOp}
 use Rattle.source.specs.JournalCache as M
 use Rattle.source.specs.JournalCache.{SuperblockReadResult, SuperblockSuccess, SuperblockUnfinished, FinishLoadingSuperblockPhaseStep, FinishLoadingOtherPhaseStep, journalIntervalOfSuperblock, loaded}
@@ -33,7 +33,7 @@ use Rattle.history.specs.Calls.{Tied, tied-finish-superblocks, tied-fini
 use Rattle.history.specs.Simulation.Steps.{sim-step}
 use Rattle.history.specs.Reloaded.{loads, readyBy, loaded-whole}
 use Rattle.history.specs.Whole.{Trace, OnlyLoads, Loaded, sim-run, firstParity, init-sim}
-use Rattle.history.specs.Loads.Superblocks.{resting, Sized, Room, disk-meets, joined, Read, read-put, superblocksAt, machine-superblocks, slot-read}
+use Rattle.history.specs.Loads.Superblocks.{resting, Room, disk-meets, joined, Read, read-put, superblocksAt, machine-superblocks, slot-read}
 use Rattle.history.specs.Loads.Journal.{otherAt, Owned, machine-other, page-read, page-held, page-owned}
 
 -- lists one after another

@@ -6,7 +6,7 @@ use mathlib.Core.List.{List, [], _∷_}
 use mathlib.Core.Option.{Option, none, some}
 use mathlib.Core.Logic.{_⊎_, inr, ⊎-elim}
 use native.Mathlib.Omega.{arith}
-use lib.ListN.{length, getD}
+use lib.ListN.{length}
 use Rattle.laws.specs.Choice.{ruin}
 use Rattle.layout.specs.declared.geometry.Geometry.{Geometry}
 use Rattle.interval.specs.declared.interval.JournalInterval.{JournalInterval}
@@ -16,12 +16,13 @@ use Rattle.superblock.specs.declared.superblock.Superblock.{Superblock}
 use Rattle.superblock.specs.Laws.{WFSuperblock, facts-superblock}
 use Rattle.laws.specs.Sets.{Ids, no-ids, join, leave, Map, no-keys, keys, AtMost, none-few, Two, both, at, put, none-some, at-both, at-put, join-here}
 use Rattle.laws.specs.Maps.{Values, join-leave, one-few, none-if}
-use Rattle.codec.specs.Codec.{Codec}
+use Rattle.codec.specs.Codec.{Sized, Codec}
 use Rattle.source.specs.JournalDisk as D
 use Rattle.source.specs.JournalDisk.{ReqId, ReqReadSuperblockOp, RespReadSuperblockOp}
 use Rattle.source.specs.JournalCache as M
 use Rattle.source.specs.JournalCache.{SuperblockReadResult, SuperblockSuccess, SuperblockUnfinished, SuperblockCorruption, PageInSuperblockReqStep, PageInSuperblockRespStep}
-use Rattle.source.specs.Limits.{Limits, limits, BlockSize, DiskLimits, Joined, MachineMeets, awaitedSuperblockReads, awaitedJournalReads, awaitedSuperblockWrites, awaitedJournalWrites}
+use Rattle.source.specs.Limits.{Limits, limits}
+use Rattle.source.specs.Meets.{DiskMeets, Joined, MachineMeets, awaitedSuperblockReads, awaitedJournalReads, awaitedSuperblockWrites, awaitedJournalWrites}
 use Rattle.source.specs.Departures.{Source, MachineStep}
 use Rattle.history.specs.Ledger.{readSuperblock, superblockRead}
 use Rattle.history.specs.Journal.Slots.{Slots}
@@ -36,10 +37,6 @@ reading reads pages slots j =
 abbrev pub resting : Two (Option Superblock) → List (Option JournalBlock) → D.Variables
 resting slots j = reading (both no-ids) no-keys slots j
 
--- the journal's blocks have their size
-abbrev pub Sized : List (Option JournalBlock) → Type 0
-Sized j = (i : ℕ) (b : JournalBlock) → getD j i none ≡ some b → length b ≡ BlockSize
-
 -- one read at a time is within the limits
 pub record Room (L : Limits) : Type 0 where
   pub superblock-read : 1 ≤ L .superblockReads
@@ -52,16 +49,11 @@ module _ (g : Geometry) (L : Limits) (slots : Two (Option Superblock)) (j : List
     (size : length j ≡ g .blocks) (sized : Sized j) where
   -- question 2 of the disk, and of both together
   pub disk-meets : (reads : Two Ids) (pages : Map JournalInterval) → ((which : Bool) → AtMost (L .superblockReads) (at reads which)) → AtMost (L .journalReads) (keys pages)
-      → Values (ContiguousJournalInterval g) pages → DiskLimits g L (reading reads pages slots j)
+      → Values (ContiguousJournalInterval g) pages → DiskMeets g L (reading reads pages slots j)
   disk-meets reads pages few pages-few contiguous =
       record {
-        superblock-reads-few = few;
-        journal-reads-few = pages-few;
-        journal-writes-few = none-few (L .journalWrites);
-        reads-contiguous = contiguous;
-        writes-contiguous = λ id u e. none-some refl e;
-        size = size;
-        block-size = sized;
+        counts = record { superblock-reads-few = few; journal-reads-few = pages-few; journal-writes-few = none-few (L .journalWrites) };
+        shape = record { reads-contiguous = contiguous; writes-contiguous = λ id u e. none-some refl e; size = size; block-size = sized };
       }
 
   pub joined : (reads : Two Ids) (pages : Map JournalInterval) (m : M.Variables) → reads ≡ awaitedSuperblockReads m → pages ≡ awaitedJournalReads g m
@@ -147,7 +139,8 @@ module _ (g : Geometry) (C : Codec) (L : Limits) (room : Room L) (slots : Two (O
               success-wf = λ b x e. ⊎-elim (λ q. ruin (cc)) (λ q. let z : at (selected .values) b ≡ x = cc in subst (WFSuperblock g) z (selected .wf b)) (read b);
               corruption-read = λ b e. ⊎-elim (λ q. ruin (cc)) (λ q. ruin (cc)) (read b);
             };
-        limits = record { sync-few = none-few (L .syncReqs); reads-differ = differ };
+        counts = record { sync-few = none-few (L .syncReqs) };
+        shape = record { reads-differ = differ };
       }
 
   -- a slot is asked for

@@ -1,5 +1,5 @@
--- What question 2 asks of a store beside 000's `Inv` and the limits: reads stand at the disk as the machine awaits them, and journal writes
--- in flight lie apart, behind what is kept. Together with the relation and `Inv` it is question 2; the steps keep it (Kept).
+-- What question 2 asks of machine and disk together: reads stand at the disk as the machine awaits them, and journal writes in flight lie
+-- apart, behind what is kept. With the relation and both halves' own question 2 it is a system's.
 use Prim.Native.Nat.{ℕ, _<_}
 use mathlib.Core.Bool.{Bool, true, false, not}
 use mathlib.Core.Path.{_≡_, refl, sym, _∙_, ap}
@@ -17,7 +17,9 @@ use Rattle.codec.specs.Codec.{Codec}
 use Rattle.source.specs.JournalDisk as D
 use Rattle.source.specs.JournalDisk.{ReqId, ReqWriteSuperblockId}
 use Rattle.source.specs.JournalCache as M
-use Rattle.source.specs.Limits.{Limits, MachineLimits, DiskLimits, SystemMeets, awaitedSuperblockReads, awaitedJournalReads, awaitedSuperblockWrites, awaitedJournalWrites, newWrite}
+use Rattle.source.specs.Limits.{Limits}
+use Rattle.source.specs.Meets.{SystemMeets, awaitedSuperblockReads, awaitedJournalReads, awaitedSuperblockWrites, awaitedJournalWrites, newWrite}
+use Rattle.source.specs.Laws.Kept.{HalvesMeet}
 use Rattle.history.specs.Ledger.{blocks, Kept, Ledger}
 use Rattle.history.specs.Journal.Slots.{Slots, picked-is}
 use Rattle.history.specs.Simulation.Relation.{superOf, keptInterval, Phase, quiet, waits, done, Flight, flightOf, idle, busy, Sim}
@@ -77,12 +79,12 @@ module _ (g : Geometry) (C : Codec) (p : ℕ) where
   sim-journal-writes (M.Variables.Ready s) d l z = z .runs .ids
 
   -- question 2
-  pub neat-meets : (L : Limits) (m : M.Variables) (d : D.Variables) (l : Ledger) → Sim g C p m d l → Neat g C m d (l .kept) → M.Inv g m → MachineLimits g L m → DiskLimits g L d
+  pub neat-meets : (L : Limits) (m : M.Variables) (d : D.Variables) (l : Ledger) → Sim g C p m d l → Neat g C m d (l .kept) → HalvesMeet g L (record { machine = m; disk = d })
       → SystemMeets g L (record { machine = m; disk = d })
-  neat-meets L m d l z n inv lm ld =
+  neat-meets L m d l z n h =
       record {
-        machine = record { inv = inv; limits = lm };
-        disk = ld;
+        machine = h .machine;
+        disk = h .disk;
         joined =
             record {
               wf =

@@ -16,7 +16,7 @@ use Rattle.codec.specs.Codec.{JournalRange}
 use Rattle.source.specs.JournalDisk.{ReqId, RespReadSuperblockOp, RespReadJournalOp}
 use Rattle.source.specs.JournalCache as M
 use Rattle.source.specs.JournalCache.{unlessIs}
-use Rattle.source.specs.Limits.{oneId, bindRead, awaitedSuperblockReads, awaitedJournalReads}
+use Rattle.source.specs.Meets.{oneId, bindRead, awaitedSuperblockReads, awaitedJournalReads}
 use Rattle.source.specs.Departures.{Awaited}
 
 -- a piece's read in the table, beside the other's

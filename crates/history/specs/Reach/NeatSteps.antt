@@ -14,7 +14,8 @@ use Rattle.source.specs.JournalDisk as D
 use Rattle.source.specs.JournalDisk.{ReqId, DiskOp}
 use Rattle.source.specs.JournalCache as M
 use Rattle.source.specs.JournalCache.{journalIntervalOfSuperblock}
-use Rattle.source.specs.Limits.{Limits, SystemMeets, awaitedJournalReads, oneId, bindRead}
+use Rattle.source.specs.Limits.{Limits}
+use Rattle.source.specs.Meets.{SystemMeets, awaitedJournalReads, oneId, bindRead}
 use Rattle.source.specs.Departures.{FinishLoadingOtherPhase⁺, NoOp⁺, Awaited, DamagedJournal, AskAgain}
 use Rattle.history.specs.Ledger.{Kept, Ledger}
 use Rattle.history.specs.Simulation.Relation.{keptInterval, Flight, flightOf, Phase, quiet, waits, done, Sim}
@@ -110,8 +111,8 @@ module _ (g : Geometry) (C : Codec) where
       ∙ page-answered (s .journalReads) (λ b. journalIntervalOfSuperblock g b (s .superblock)) id (v .0) which e (v .1) (other which e)
     where
       other : (which : Bool) → at (s .journalReads) which ≡ some id → at (s .journalReads) (not which) ≡ some id → ⊥
-      other false p q = a .machine .limits .reads-differ id p q
-      other true p q = a .machine .limits .reads-differ id q p
+      other false p q = a .machine .shape .reads-differ id p q
+      other true p q = a .machine .shape .reads-differ id q p
 
   pub neat-journal-resp : (L : Limits) (which : Bool) (m m′ : M.Variables) (d d′ : D.Variables) (k : Kept) (dop : DiskOp) → SystemMeets g L (record { machine = m; disk = d }) → Neat g C m d k
       → M.PageInJournalResp m m′ dop which → D.Next g d d′ dop → Neat g C m′ d′ k
@@ -151,7 +152,7 @@ module _ (g : Geometry) (C : Codec) where
           (λ id e.
           let v = a .machine .inv .read-interval b id e in
           let jr = in-place b (v .0) (v .1) in
-          a .machine .limits .read-or-in b id (jr .0) e (jr .1))
+          a .machine .shape .read-or-in b id (jr .0) e (jr .1))
   neat-finish-other L p (M.Variables.Ready s) m′ d d′ l k dop z a n h hd = absurd (h .source)
 
   -- sync requests and replay

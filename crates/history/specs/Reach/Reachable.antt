@@ -1,5 +1,5 @@
 -- Question 2 never turns away a store that came from `Init` by accepted steps within the limits: an accepted step leads to a state that meets
--- it again, where that state's counts and sizes are within the limits.
+-- it again, where the step's arguments are in range and that state's counts are within the limits.
 use Prim.Native.Nat.{ℕ, _+_, _≤_, _<_}
 use mathlib.Core.Bool.{Bool, true, false}
 use mathlib.Core.Path.{_≡_, refl, sym, _∙_, ap, subst}
@@ -7,24 +7,26 @@ use mathlib.Core.List.{List, [], _∷_}
 use mathlib.Core.Logic.{inl}
 use native.Mathlib.Omega.{arith}
 use lib.ListN.{length}
-use Rattle.laws.specs.Choice.{ruin, split-le}
+use Rattle.laws.specs.Choice.{split-le}
 use Rattle.layout.specs.declared.geometry.Geometry.{Geometry}
 use Rattle.layout.specs.declared.location.Location.{Location}
 use Rattle.layout.specs.Journal.{JournalPosAdd}
 use Rattle.interval.specs.declared.interval.JournalInterval.{JournalInterval}
 use Rattle.superblock.specs.declared.superblock.Superblock.{Superblock}
-use Rattle.laws.specs.Sets.{Map, no-keys, bind, both, at-both}
+use Rattle.laws.specs.Sets.{Map, no-keys, bind, both}
 use Rattle.laws.specs.Maps.{Values, no-keys-some}
-use Rattle.codec.specs.Codec.{JournalRange, Codec}
+use Rattle.codec.specs.Codec.{JournalRange, Sized, Codec}
 use Rattle.source.specs.JournalDisk as D
 use Rattle.source.specs.JournalDisk.{ReqWriteJournal, DiskOp, written, written1, written2}
 use Rattle.source.specs.JournalCache as M
-use Rattle.source.specs.JournalCache.{SuperblockUnfinished}
 use Rattle.source.specs.JournalSystem as Y
 use Rattle.source.specs.JournalSystem.{SuperblockOfDisk}
-use Rattle.source.specs.Limits.{Limits, SystemMeets, MachineLimits, DiskLimits, init-meets}
-use Rattle.source.specs.Departures.{WriteBackJournalReq⁺, Event, MachineStep, DiskInternalStep, CrashStep, Allowed}
-use Rattle.source.specs.Laws.Preserved.{inv-kept⁺}
+use Rattle.source.specs.Limits.{Limits, Fitting}
+use Rattle.source.specs.Meets.{SystemMeets}
+use Rattle.source.specs.Departures.{WriteBackJournalReq⁺, Event, Allowed}
+use Rattle.source.specs.Within.{Within}
+use Rattle.source.specs.Laws.Initial.{init-meets}
+use Rattle.source.specs.Laws.Kept.{halves-kept}
 use Rattle.history.specs.Ledger.{Call, blocks, Kept, Ledger, begin, tell, books}
 use Rattle.history.specs.Journal.Slots.{slots-wf}
 use Rattle.history.specs.Simulation.Relation.{superOf, keptInterval, Standing, Sim}
@@ -32,7 +34,6 @@ use Rattle.history.specs.Simulation.Working.{on-quiet}
 use Rattle.history.specs.Calls.{Tied, tied-write, tied-written, unawaited-written, tied-log, tied-location, tied-committed, unawaited-committed, tied-page, tied-paged, tied-damaged, unawaited-paged, unawaited-damaged, tied-read, tied-superblock, tied-corrupt, unawaited-superblock, unawaited-corrupt, tied-finish-superblocks, tied-finish-other, tied-freeze, tied-receive, tied-add, tied-replay, tied-push, tied-pop, tied-no-op, tied-again, tied-land, tied-crash, Takes}
 use Rattle.history.specs.Simulation.Steps.{sim-step}
 use Rattle.history.specs.Whole.{Trace, firstParity, init-sim}
-use Rattle.history.specs.Loads.Superblocks.{Sized}
 use Rattle.history.specs.Reach.Neat.{Piece, Neat, neat-meets}
 use Rattle.history.specs.Reach.NeatWrites.{Lone, straight-pieces, straight-lone, wrapped-pieces, wrapped-lone}
 use Rattle.history.specs.Reach.NeatSteps.{by-neat, neat-superblock-req, neat-superblock-resp, neat-ask-again, neat-finish-superblocks, neat-journal-req, neat-journal-resp, neat-damaged, neat-finish-other, neat-push, neat-pop, neat-replay, neat-add, neat-freeze, neat-receive, neat-commit-log, neat-commit-location, neat-write-resp, neat-commit-resp, neat-land, neat-no-op}
@@ -96,21 +97,6 @@ module _ (g : Geometry) (C : Codec) (p : ℕ) where
         apart = λ id1 id2 v1 v2 q r o. no-keys-some (d .reqWriteJournals) id1 v1 c q;
       })
 
-inv-init : (g : Geometry) (m : M.Variables) → M.Init m → M.Inv g m
-inv-init g m e =
-    subst (M.Inv g) (sym e)
-    (record {
-      success-read = λ which v q. ruin (cc (at-both SuperblockUnfinished which));
-      success-wf = λ which v q. ruin (cc (at-both SuperblockUnfinished which));
-      corruption-read = λ which q. ruin (cc (at-both SuperblockUnfinished which));
-    })
-
--- `Inv` after an allowed event
-inv-event : (g : Geometry) (C : Codec) (L : Limits) (s t : Y.Variables) (e : Event) → Allowed g C L s t e → M.Inv g (t .machine)
-inv-event g C L s t (MachineStep dop step) a = inv-kept⁺ g C (s .machine) (t .machine) dop step (a .meets .machine .inv) (a .step .machine)
-inv-event g C L s t (DiskInternalStep step) a = subst (M.Inv g) (a .step .machine) (a .meets .machine .inv)
-inv-event g C L s t (CrashStep picture) a = inv-init g (t .machine) (a .step .machine)
-
 module _ (g : Geometry) (C : Codec) (L : Limits) (p : ℕ) (s t : Y.Variables) (l : Ledger) (z : Sim g C p (s .machine) (s .disk) l) (n : Neat g C (s .machine) (s .disk) (l .kept)) where
   neat-tied : (x : Call) (e : Event) → Tied x e → Allowed g C L s t e → Neat g C (t .machine) (t .disk) (tell g C x l .kept)
   unfolding tell
@@ -163,33 +149,33 @@ reached-init g C L first loc i sized =
       meets = init-meets g L first loc i sized;
     }
 
--- an accepted call, to a state within the limits
-pub reached-step : (g : Geometry) (C : Codec) (L : Limits) (p : ℕ) (s t : Y.Variables) (l : Ledger) (x : Call) → Reached g C L p s l → Takes g C L s t x
-    → MachineLimits g L (t .machine) → DiskLimits g L (t .disk) → Reached g C L p t (tell g C x l)
-reached-step g C L p s t l x r h lm ld =
+-- an accepted call within the limits: its arguments in range, and the counts of the state that it leads to
+pub reached-step : (g : Geometry) (C : Codec) (L : Limits) → Fitting C L → (p : ℕ) (s t : Y.Variables) (l : Ledger) (x : Call) → Reached g C L p s l → (h : Takes g C L s t x)
+    → Within g L t (h .event) → Reached g C L p t (tell g C x l)
+reached-step g C L fits p s t l x r h w =
     let z = sim-step g C L p s t l (r .sim) x h in
     let n = neat-tied g C L p s t l (r .sim) (r .neat) x (h .event) (h .tied) (h .allowed) in
     record {
       sim = z;
       neat = n;
-      meets = neat-meets g C p L (t .machine) (t .disk) (tell g C x l) z n (inv-event g C L s t (h .event) (h .allowed)) lm ld;
+      meets = neat-meets g C p L (t .machine) (t .disk) (tell g C x l) z n (halves-kept g C L fits s t (h .event) (h .allowed) w);
     }
 
--- the states that accepted calls lead to are within the limits
+-- every accepted call is within the limits
 abbrev pub AllWithin : (g : Geometry) (C : Codec) (L : Limits) (s : Y.Variables) (xs : List Call) (bs : List Bool) (t : Y.Variables) → Trace g C L s xs bs t → Type 0
 AllWithin g C L s [] [] t h = Unit {0}
 AllWithin g C L s [] (b ∷ bs) t h = Unit {0}
 AllWithin g C L s (x ∷ xs) [] t h = Unit {0}
-AllWithin g C L s (x ∷ xs) (true ∷ bs) t h = MachineLimits g L (h .0 .machine) × DiskLimits g L (h .0 .disk) × AllWithin g C L (h .0) xs bs t (h .2)
+AllWithin g C L s (x ∷ xs) (true ∷ bs) t h = Within g L (h .0) (h .1 .event) × AllWithin g C L (h .0) xs bs t (h .2)
 AllWithin g C L s (x ∷ xs) (false ∷ bs) t h = AllWithin g C L (h .0) xs bs t (h .2)
 
 -- so question 2 says yes in every state that a list of calls leads to
-pub reached-run : (g : Geometry) (C : Codec) (L : Limits) (p : ℕ) (s t : Y.Variables) (l : Ledger) (xs : List Call) (bs : List Bool) → Reached g C L p s l → (h : Trace g C L s xs bs t)
+pub reached-run : (g : Geometry) (C : Codec) (L : Limits) → Fitting C L → (p : ℕ) (s t : Y.Variables) (l : Ledger) (xs : List Call) (bs : List Bool) → Reached g C L p s l → (h : Trace g C L s xs bs t)
     → AllWithin g C L s xs bs t h → Reached g C L p t (books g C l xs bs)
 unfolding books
-reached-run g C L p s t l [] [] r h w = subst (λ (u : Y.Variables). Reached g C L p u l) (sym h) r
-reached-run g C L p s t l [] (b ∷ bs) r h w = absurd h
-reached-run g C L p s t l (x ∷ xs) [] r h w = absurd h
-reached-run g C L p s t l (x ∷ xs) (true ∷ bs) r h w = reached-run g C L p (h .0) t (tell g C x l) xs bs (reached-step g C L p s (h .0) l x r (h .1) (w .0) (w .1)) (h .2) (w .2)
-reached-run g C L p s t l (x ∷ xs) (false ∷ bs) r h w =
-    reached-run g C L p (h .0) t l xs bs (subst (λ (u : Y.Variables). Reached g C L p u l) (sym (h .1)) r) (h .2) w
+reached-run g C L fits p s t l [] [] r h w = subst (λ (u : Y.Variables). Reached g C L p u l) (sym h) r
+reached-run g C L fits p s t l [] (b ∷ bs) r h w = absurd h
+reached-run g C L fits p s t l (x ∷ xs) [] r h w = absurd h
+reached-run g C L fits p s t l (x ∷ xs) (true ∷ bs) r h w = reached-run g C L fits p (h .0) t (tell g C x l) xs bs (reached-step g C L fits p s (h .0) l x r (h .1) (w .0)) (h .2) (w .1)
+reached-run g C L fits p s t l (x ∷ xs) (false ∷ bs) r h w =
+    reached-run g C L fits p (h .0) t l xs bs (subst (λ (u : Y.Variables). Reached g C L p u l) (sym (h .1)) r) (h .2) w

@@ -1,19 +1,17 @@
 -- An allowed step keeps the relation: each call's step by its own lemma. Question 2 is used once, for the read that a journal answer answers.
 use Prim.Native.Nat.{ℕ}
-use mathlib.Core.Bool.{Bool, true, false}
-use mathlib.Core.Path.{_≡_, refl, _∙_, ap}
-use mathlib.Core.Option.{Option, none, some}
+use mathlib.Core.Path.{_∙_, ap}
 use Rattle.layout.specs.declared.geometry.Geometry.{Geometry}
 use Rattle.interval.specs.declared.interval.JournalInterval.{JournalInterval}
-use Rattle.laws.specs.Sets.{Map, bind, at, none-some, same-value, bind-here, bind-there}
+use Rattle.laws.specs.Sets.{Map}
 use Rattle.codec.specs.Codec.{Codec}
 use Rattle.source.specs.JournalDisk as D
-use Rattle.source.specs.JournalDisk.{ReqId}
 use Rattle.source.specs.JournalCache as M
-use Rattle.source.specs.JournalCache.{journalIntervalOfSuperblock}
 use Rattle.source.specs.JournalSystem as Y
-use Rattle.source.specs.Limits.{Limits, SystemMeets, bindRead}
+use Rattle.source.specs.Limits.{Limits}
+use Rattle.source.specs.Meets.{SystemMeets}
 use Rattle.source.specs.Departures.{Event, Allowed}
+use Rattle.source.specs.Laws.Awaited.{awaited-read}
 use Rattle.history.specs.Ledger.{Call, Ledger, tell}
 use Rattle.history.specs.Calls.{Tied, tied-write, tied-written, unawaited-written, tied-log, tied-location, tied-committed, unawaited-committed, tied-page, tied-paged, tied-damaged, unawaited-paged, unawaited-damaged, tied-read, tied-superblock, tied-corrupt, unawaited-superblock, unawaited-corrupt, tied-finish-superblocks, tied-finish-other, tied-freeze, tied-receive, tied-add, tied-replay, tied-push, tied-pop, tied-no-op, tied-again, tied-land, tied-crash, Takes}
 use Rattle.history.specs.Simulation.Relation.{ReadsStand, Sim}
@@ -24,32 +22,9 @@ use Rattle.history.specs.Simulation.Landing.{sim-land}
 use Rattle.history.specs.Simulation.Answering.{sim-commit-resp, sim-no-op, sim-damaged, sim-ask-again, sim-crash}
 
 -- by question 2, an awaited journal read stands at the disk under its own interval
-front-stands : (o : Option ReqId) (u : Option JournalInterval) (m : Map JournalInterval) (id : ReqId) (v : JournalInterval) → o ≡ some id → u ≡ some v → bindRead o u m id ≡ some v
-front-stands none u m id v e q = none-some refl e
-front-stands (some k) none m id v e q = none-some refl q
-front-stands (some k) (some x) m id v e q =
-    (λ i. bind m (same-value {o = some k} refl e i) (same-value {o = some x} refl q i) id) ∙ bind-here m id v
-
-back-stands : (o : Option ReqId) (u : Option JournalInterval) (m : Map JournalInterval) (id : ReqId) (v : JournalInterval) → (o ≡ some id → ⊥) → m id ≡ some v → bindRead o u m id ≡ some v
-back-stands none u m id v f q = q
-back-stands (some k) none m id v f q = q
-back-stands (some k) (some x) m id v f q = bind-there m k id x (λ e. f (ap (λ (n : ReqId). some n) e)) ∙ q
-
 pub reads-stand : (g : Geometry) (L : Limits) (m : M.Variables) (d : D.Variables) → SystemMeets g L (record { machine = m; disk = d }) → ReadsStand g m d
 reads-stand g L (M.Variables.Ready s) d h = tt
-reads-stand g L (M.Variables.LoadingOther s) d h = go
-  where
-    back : Map JournalInterval
-    back = bindRead (at (s .journalReads) true) (journalIntervalOfSuperblock g true (s .superblock)) (λ i. none)
-
-    go : (which : Bool) (id : ReqId) (v : JournalInterval) → at (s .journalReads) which ≡ some id → journalIntervalOfSuperblock g which (s .superblock) ≡ some v → d .reqReadJournals id ≡ some v
-    go false id v e q =
-        ap (λ (r : Map JournalInterval). r id) (h .joined .journal-reads)
-        ∙ front-stands (at (s .journalReads) false) (journalIntervalOfSuperblock g false (s .superblock)) back id v e q
-    go true id v e q =
-        ap (λ (r : Map JournalInterval). r id) (h .joined .journal-reads)
-        ∙ back-stands (at (s .journalReads) false) (journalIntervalOfSuperblock g false (s .superblock)) back id v (λ f. h .machine .limits .reads-differ id f e)
-        (front-stands (at (s .journalReads) true) (journalIntervalOfSuperblock g true (s .superblock)) (λ i. none) id v e q)
+reads-stand g L (M.Variables.LoadingOther s) d h = λ which id v e q. ap (λ (r : Map JournalInterval). r id) (h .joined .journal-reads) ∙ awaited-read g s (h .machine .shape) which id v e q
 reads-stand g L (M.Variables.LoadingSuperblock s) d h = tt
 
 module _ (g : Geometry) (C : Codec) (L : Limits) (p : ℕ) (s t : Y.Variables) (l : Ledger) (z : Sim g C p (s .machine) (s .disk) l) where

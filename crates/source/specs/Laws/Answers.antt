@@ -9,7 +9,8 @@ use Rattle.source.specs.JournalDisk.{DiskOp, ReqReadSuperblockOp, ReqRea
 use Rattle.source.specs.JournalCache as M
 use Rattle.source.specs.JournalCache.{Variables, Ready, LoadingOther, LoadingSuperblock, ReadyVariables, LoadingOtherVariables, LoadingSuperblockVariables, isReady}
 use Rattle.source.specs.JournalCache.{WriteBackJournalReqStep, WriteBackJournalRespStep, WriteBackSuperblockReq-AdvanceLog-Step, WriteBackSuperblockReq-AdvanceLocation-Step, WriteBackSuperblockRespStep, PageInJournalReqStep, PageInJournalRespStep, PageInSuperblockReqStep, PageInSuperblockRespStep, FinishLoadingSuperblockPhaseStep, FinishLoadingOtherPhaseStep, FreezeStep, ReceiveFrozenLocStep, AdvanceStep, ReplayStep, PushSyncReqStep, PopSyncReqStep, NoOpStep}
-use Rattle.source.specs.Limits.{Limits, MachineMeets}
+use Rattle.source.specs.Limits.{Limits}
+use Rattle.source.specs.Meets.{MachineMeets}
 use Rattle.source.specs.Departures.{Awaited, NoOp⁺, PageInJournalResp⁺, DamagedJournalClauses, DamagedJournal, Step⁺, Source, DamagedJournalStep, AskAgainStep, NextStep⁺}
 use Rattle.source.specs.Laws.Unique.{writeBackJournalResp-one, writeBackSuperblockResp-one, pageInJournalResp-one, damagedJournal-one, pageInSuperblockResp-one}
 

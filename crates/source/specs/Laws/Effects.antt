@@ -16,7 +16,7 @@ use Rattle.source.specs.JournalDisk.{ReqId, ReqWriteSuperblockId, ReqWri
 use Rattle.source.specs.JournalCache as M
 use Rattle.source.specs.JournalCache.{Ready, LoadingOther, LoadingSuperblock, loaded}
 use Rattle.source.specs.JournalSystem.{onReady}
-use Rattle.source.specs.Limits.{newWrite, awaitedSuperblockWrites}
+use Rattle.source.specs.Meets.{newWrite, awaitedSuperblockWrites}
 
 -- nothing is awaited before the request, and after it the one write
 asked-awaited : (s : M.ReadyVariables) (d : D.Variables) (id : ReqId) (req : ReqWriteSuperblock) (new : Superblock) → s .superblockWrite ≡ none → req .superblock ≡ new

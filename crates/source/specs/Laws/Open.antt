@@ -25,7 +25,8 @@ use Rattle.source.specs.JournalCache as M
 use Rattle.source.specs.JournalCache.{Variables, Ready, LoadingOther, LoadingSuperblock, ReadyVariables, LoadingOtherVariables, LoadingSuperblockVariables, isReady, isLoadingOther, isLoadingSuperblock, SuperblockReadResult, SuperblockUnfinished, SuperblockCorruption, CommitNone}
 use Rattle.source.specs.JournalCache.{Step, WriteBackJournalReqStep, WriteBackJournalRespStep, WriteBackSuperblockReq-AdvanceLog-Step, WriteBackSuperblockReq-AdvanceLocation-Step, WriteBackSuperblockRespStep, PageInJournalReqStep, PageInJournalRespStep, PageInSuperblockReqStep, PageInSuperblockRespStep, FinishLoadingSuperblockPhaseStep, FinishLoadingOtherPhaseStep, FreezeStep, ReceiveFrozenLocStep, AdvanceStep, ReplayStep, PushSyncReqStep, PopSyncReqStep, NoOpStep}
 use Rattle.source.specs.JournalSystem as Y
-use Rattle.source.specs.Limits.{limits, MachineMeets}
+use Rattle.source.specs.Limits.{limits}
+use Rattle.source.specs.Meets.{MachineMeets}
 use Rattle.source.specs.Departures.{DamagedJournal, AskAgain}
 use Rattle.source.specs.Laws.Answers.{Answer}
 
@@ -72,12 +73,12 @@ module _ (g : Geometry) (v : ValidGeometry g) where
               read-interval = λ which id e. none-some (at-both none which) e;
               piece-interval = λ which jr e. none-some (at-both none which) e;
             };
-        limits =
+        counts = record { sync-few = none-few (limits .syncReqs) };
+        shape =
             record {
-              sync-few = none-few 32;
               reads-differ = λ id p q. none-some refl p;
               read-or-in = λ which id jr p q. none-some (at-both none which) p;
-              piece-len = λ which jr w p q. none-some (at-both none which) p;
+              piece-size = λ which jr w p q. none-some (at-both none which) p;
             };
       }
 
@@ -148,7 +149,8 @@ awaiting-meets g =
             success-wf = λ which superblock e. ruin (cc (at-both SuperblockUnfinished which));
             corruption-read = λ which e. ruin (cc (at-both SuperblockUnfinished which));
           };
-      limits = record { sync-few = none-few 32; reads-differ = λ id p q. none-some refl q };
+      counts = record { sync-few = none-few (limits .syncReqs) };
+      shape = record { reads-differ = λ id p q. none-some refl q };
     }
 
 pub answer-open : (g : Geometry) (C : Codec)

@@ -5,7 +5,6 @@ use mathlib.Core.Path.{_≡_, refl, sym, _∙_, ap, subst}
 use mathlib.Core.List.{_++_}
 use mathlib.Core.Option.{Option, none, some}
 use native.Mathlib.Omega.{arith}
-use lib.Dec.{eqb}
 use Rattle.laws.specs.Choice.{ruin, true-false, split-bool}
 use Rattle.layout.specs.declared.geometry.Geometry.{Geometry}
 use Rattle.interval.specs.declared.interval.JournalInterval.{JournalInterval}
@@ -21,6 +20,7 @@ use Rattle.source.specs.JournalCache.{Variables, Ready, LoadingOther, Lo
 use Rattle.source.specs.JournalCache.{to-superblocks, to-outstandingSuperblockReads, superblockRead, journalIntervalOfSuperblock, withSyncReqs, syncReqsOf, unlessIs, selectedSecond}
 use Rattle.source.specs.JournalCache.{InvLoadingSuperblock, InvLoadingOther, InvReady, Inv, NextStep}
 use Rattle.source.specs.JournalCache.{Step, WriteBackJournalReqStep, WriteBackJournalRespStep, WriteBackSuperblockReq-AdvanceLog-Step, WriteBackSuperblockReq-AdvanceLocation-Step, WriteBackSuperblockRespStep, PageInJournalReqStep, PageInJournalRespStep, PageInSuperblockReqStep, PageInSuperblockRespStep, FinishLoadingSuperblockPhaseStep, FinishLoadingOtherPhaseStep, FreezeStep, ReceiveFrozenLocStep, AdvanceStep, ReplayStep, PushSyncReqStep, PopSyncReqStep, NoOpStep}
+use Rattle.source.specs.Laws.Awaited.{unless-some}
 use Rattle.source.specs.Laws.PreservedReady.{by-next, inv-rest, inv-freeze, inv-receive, inv-write, inv-write-resp, inv-commit-log, inv-commit-location, inv-commit-resp}
 
 module _ (g : Geometry) where
@@ -108,15 +108,6 @@ module _ (g : Geometry) where
       go : (b : Bool) → WFSuperblock g (cond b (k .superblock2) (k .superblock1))
       go true = h .success-wf true (k .superblock2) (k .success2)
       go false = h .success-wf false (k .superblock1) (k .success1)
-
-  -- what is awaited of a piece after another was asked for
-  unless-some : (o : Option ReqId) (k id : ReqId) → unlessIs o k ≡ some id → o ≡ some id
-  unless-some none k id e = e
-  unless-some (some i) k id e = go (eqb i k) e
-    where
-      go : (b : Bool) → cond b none (some i) ≡ some id → some i ≡ some id
-      go true q = ruin (cc)
-      go false q = q
 
   inv-journal-req : (s : LoadingOtherVariables) (s′ : Variables) (dop : DiskOp) (which : Bool) → InvLoadingOther g s → JournalCache.PageInJournalReqClauses g s s′ dop which → Inv g s′
   inv-journal-req s s′ dop which h k =

@@ -26,7 +26,8 @@ use Rattle.source.specs.JournalCache as M
 use Rattle.source.specs.JournalCache.{Variables, Ready, LoadingOther, LoadingSuperblock, ReadyVariables, LoadingOtherVariables, LoadingSuperblockVariables, isReady, isLoadingOther, isLoadingSuperblock, CommitStatus, CommitNone, CommitAdvanceLog, CommitAdvanceLocation, InvReady}
 use Rattle.source.specs.JournalCache.{Step, WriteBackJournalReqStep, WriteBackJournalRespStep, WriteBackSuperblockReq-AdvanceLog-Step, WriteBackSuperblockReq-AdvanceLocation-Step, WriteBackSuperblockRespStep, PageInJournalReqStep, PageInJournalRespStep, PageInSuperblockReqStep, PageInSuperblockRespStep, FinishLoadingSuperblockPhaseStep, FinishLoadingOtherPhaseStep, FreezeStep, ReceiveFrozenLocStep, AdvanceStep, ReplayStep, PushSyncReqStep, PopSyncReqStep, NoOpStep}
 use Rattle.source.specs.JournalSystem as Y
-use Rattle.source.specs.Limits.{Limits, LoadingOtherLimits, MachineMeets}
+use Rattle.source.specs.Limits.{Limits}
+use Rattle.source.specs.Meets.{LoadingOtherShape, MachineMeets}
 use Rattle.source.specs.Departures.{OneRange, FinishLoadingOtherPhase⁺, PageInJournalResp⁺, DamagedJournalClauses, DamagedJournal, AskAgainClauses, AskAgain, SourceStep⁺, Step⁺, Source, DamagedJournalStep, AskAgainStep, NextStep⁺, DiskCrash⁺, Event, MachineStep, DiskInternalStep, CrashStep, Allowed}
 
 -- The disk
@@ -190,37 +191,37 @@ writeBackSuperblockResp-one g (LoadingOther s) s′ s″ dop inv h k = absurd h
 writeBackSuperblockResp-one g (LoadingSuperblock s) s′ s″ dop inv h k = absurd h
 
 -- the two reads differ, so one piece has the answer's id
-same-piece : (g : Geometry) (L : Limits) (s : LoadingOtherVariables) → LoadingOtherLimits g L s → (id : ReqId) (v w : Bool)
+same-piece : (g : Geometry) (s : LoadingOtherVariables) → LoadingOtherShape g s → (id : ReqId) (v w : Bool)
     → at (s .journalReads) v ≡ some id → at (s .journalReads) w ≡ some id → v ≡ w
-same-piece g L s l id true true p q = refl
-same-piece g L s l id true false p q = absurd (l .reads-differ id q p)
-same-piece g L s l id false true p q = absurd (l .reads-differ id p q)
-same-piece g L s l id false false p q = refl
+same-piece g s l id true true p q = refl
+same-piece g s l id true false p q = absurd (l .reads-differ id q p)
+same-piece g s l id false true p q = absurd (l .reads-differ id p q)
+same-piece g s l id false false p q = refl
 
-piece-one : (g : Geometry) (L : Limits) (s : LoadingOtherVariables) (s′ s″ : Variables) (dop : DiskOp) (v w : Bool) → LoadingOtherLimits g L s
+piece-one : (g : Geometry) (s : LoadingOtherVariables) (s′ s″ : Variables) (dop : DiskOp) (v w : Bool) → LoadingOtherShape g s
     → M.PageInJournalRespClauses s s′ dop v → M.PageInJournalRespClauses s s″ dop w → s′ ≡ s″
-piece-one g L s s′ s″ dop v w l h k =
+piece-one g s s′ s″ dop v w l h k =
     let i : h .id ≡ k .id = cc in
-    let p : v ≡ w = same-piece g L s l (k .id) v w (h .waiting ∙ (λ n. some (i n))) (k .waiting) in
+    let p : v ≡ w = same-piece g s l (k .id) v w (h .waiting ∙ (λ n. some (i n))) (k .waiting) in
     cc
 
 pub pageInJournalResp-one : (g : Geometry) (L : Limits) (s s′ s″ : Variables) (dop : DiskOp) → MachineMeets g L s
     → PageInJournalResp⁺ s s′ dop → PageInJournalResp⁺ s s″ dop → s′ ≡ s″
 pageInJournalResp-one g L (Ready s) s′ s″ dop m h k = absurd (h .1)
-pageInJournalResp-one g L (LoadingOther s) s′ s″ dop m h k = piece-one g L s s′ s″ dop (h .0) (k .0) (m .limits) (h .1) (k .1)
+pageInJournalResp-one g L (LoadingOther s) s′ s″ dop m h k = piece-one g s s′ s″ dop (h .0) (k .0) (m .shape) (h .1) (k .1)
 pageInJournalResp-one g L (LoadingSuperblock s) s′ s″ dop m h k = absurd (h .1)
 
-damaged-one : (g : Geometry) (L : Limits) (s : LoadingOtherVariables) (s′ s″ : Variables) (dop : DiskOp) → LoadingOtherLimits g L s
+damaged-one : (g : Geometry) (s : LoadingOtherVariables) (s′ s″ : Variables) (dop : DiskOp) → LoadingOtherShape g s
     → DamagedJournalClauses s s′ dop → DamagedJournalClauses s s″ dop → s′ ≡ s″
-damaged-one g L s s′ s″ dop l h k =
+damaged-one g s s′ s″ dop l h k =
     let i : h .id ≡ k .id = cc in
-    let p : h .which ≡ k .which = same-piece g L s l (k .id) (h .which) (k .which) (h .waiting ∙ (λ n. some (i n))) (k .waiting) in
+    let p : h .which ≡ k .which = same-piece g s l (k .id) (h .which) (k .which) (h .waiting ∙ (λ n. some (i n))) (k .waiting) in
     cc
 
 pub damagedJournal-one : (g : Geometry) (L : Limits) (s s′ s″ : Variables) (dop : DiskOp) → MachineMeets g L s
     → DamagedJournal s s′ dop → DamagedJournal s s″ dop → s′ ≡ s″
 damagedJournal-one g L (Ready s) s′ s″ dop m h k = absurd h
-damagedJournal-one g L (LoadingOther s) s′ s″ dop m h k = damaged-one g L s s′ s″ dop (m .limits) h k
+damagedJournal-one g L (LoadingOther s) s′ s″ dop m h k = damaged-one g s s′ s″ dop (m .shape) h k
 damagedJournal-one g L (LoadingSuperblock s) s′ s″ dop m h k = absurd h
 
 -- every field of the machine at Ready is said

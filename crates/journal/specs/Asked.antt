@@ -1,0 +1,98 @@
+-- What a yes to the questions tells, of the lent blocks and marks and of each function's arguments: the facts, as records.
+use Prim.Native.Nat.{ℕ, _*_}
+use mathlib.Core.Bool.{true}
+use mathlib.Core.Path.{_≡_}
+use mathlib.Core.List.{List}
+use native.Mathlib.Omega.{arith}
+use borrow.Author.Tests.{eqb-true}
+use lib.ListN.{length}
+use Rattle.laws.specs.Choice.{ask-yes, andThen-left, andThen-right, also-left, also-right}
+use Rattle.laws.specs.Fold.{every}
+use Rattle.layout.specs.declared.geometry.Geometry.{Geometry}
+use Rattle.layout.specs.Geometry.{ValidGeometry, geometry-asked}
+use Rattle.interval.specs.declared.interval.JournalInterval.{JournalInterval}
+use Rattle.interval.specs.Facts.{ValidJournalInterval, interval-asked}
+use Rattle.journal.specs.Memory.{isMark, askBlocks, askMarks, askJournal, askSize, askSliceBytes, askSliceMarks, askFull, askUpdate}
+
+pub record Blocks (g : Geometry) (blocks : List ℕ) : Type 0 where
+  pub geometry : ValidGeometry g
+  pub size : length blocks ≡ g .blocks * 4096
+
+pub blocks-asked : (g : Geometry) (blocks : List ℕ) → askBlocks g blocks ≡ 0 → Blocks g blocks
+unfolding askBlocks
+blocks-asked g blocks e =
+    record {
+      geometry = geometry-asked g (andThen-left _ _ e);
+      size = eqb-true (length blocks) (g .blocks * 4096) (ask-yes 1 _ (omega arith) (andThen-right _ _ e));
+    }
+
+pub record Marks (g : Geometry) (marks : List ℕ) : Type 0 where
+  pub geometry : ValidGeometry g
+  pub size : length marks ≡ g .blocks
+  pub each : every isMark marks ≡ true
+
+pub marks-asked : (g : Geometry) (marks : List ℕ) → askMarks g marks ≡ 0 → Marks g marks
+unfolding askMarks
+marks-asked g marks e =
+    let t = ask-yes 1 _ (omega arith) (andThen-right _ _ e) in
+    record {
+      geometry = geometry-asked g (andThen-left _ _ e);
+      size = eqb-true (length marks) (g .blocks) (also-left _ _ t);
+      each = also-right _ _ t;
+    }
+
+pub record SliceBytes (g : Geometry) (v : JournalInterval) (blocks out : List ℕ) : Type 0 where
+  pub from : Blocks g blocks
+  pub to : length out ≡ g .blocks * 4096
+  pub valid : ValidJournalInterval g v
+
+pub slice-bytes-asked : (g : Geometry) (v : JournalInterval) (blocks out : List ℕ) → askSliceBytes g v blocks out ≡ 0 → SliceBytes g v blocks out
+unfolding askSliceBytes
+slice-bytes-asked g v blocks out e =
+    let r = andThen-right _ _ e in
+    record {
+      from = blocks-asked g blocks (andThen-left _ _ e);
+      to = blocks-asked g out (andThen-left _ _ r) .size;
+      valid = interval-asked g v (andThen-right _ _ r) .valid;
+    }
+
+pub record SliceMarks (g : Geometry) (v : JournalInterval) (marks out : List ℕ) : Type 0 where
+  pub from : Marks g marks
+  pub to : length out ≡ g .blocks
+  pub valid : ValidJournalInterval g v
+
+pub slice-marks-asked : (g : Geometry) (v : JournalInterval) (marks out : List ℕ) → askSliceMarks g v marks out ≡ 0 → SliceMarks g v marks out
+unfolding askSliceMarks
+slice-marks-asked g v marks out e =
+    let r = andThen-right _ _ e in
+    record {
+      from = marks-asked g marks (andThen-left _ _ e);
+      to = eqb-true (length out) (g .blocks) (ask-yes 1 _ (omega arith) (andThen-left _ _ r));
+      valid = interval-asked g v (andThen-right _ _ r) .valid;
+    }
+
+pub record Full (g : Geometry) (v : JournalInterval) (marks : List ℕ) : Type 0 where
+  pub from : Marks g marks
+  pub valid : ValidJournalInterval g v
+
+pub full-asked : (g : Geometry) (v : JournalInterval) (marks : List ℕ) → askFull g v marks ≡ 0 → Full g v marks
+unfolding askFull
+full-asked g v marks e = record { from = marks-asked g marks (andThen-left _ _ e); valid = interval-asked g v (andThen-right _ _ e) .valid }
+
+pub record Update (g : Geometry) (v : JournalInterval) (new blocks marks : List ℕ) : Type 0 where
+  pub blocks-size : Blocks g blocks
+  pub marks-size : Marks g marks
+  pub valid : ValidJournalInterval g v
+  pub new-size : length new ≡ v .len * 4096
+
+pub update-asked : (g : Geometry) (v : JournalInterval) (new blocks marks : List ℕ) → askUpdate g v new blocks marks ≡ 0 → Update g v new blocks marks
+unfolding askUpdate askJournal askSize
+update-asked g v new blocks marks e =
+    let j = andThen-left _ _ e in
+    let r = andThen-right _ _ e in
+    record {
+      blocks-size = blocks-asked g blocks (andThen-left _ _ j);
+      marks-size = marks-asked g marks (andThen-right _ _ j);
+      valid = interval-asked g v (andThen-left _ _ r) .valid;
+      new-size = eqb-true (length new) (v .len * 4096) (ask-yes 4 _ (omega arith) (andThen-right _ _ r));
+    }
