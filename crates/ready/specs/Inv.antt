@@ -10,7 +10,7 @@ use Rattle.layout.specs.Geometry.{NumJournalBlocks}
 use Rattle.layout.specs.Location.{validIndirectionTableLocation, sameLocation}
 use Rattle.layout.specs.Journal.{JournalPosAdd}
 use Rattle.superblock.specs.declared.superblock.Superblock.{Superblock}
-use Rattle.superblock.specs.Superblock.{increments1, wfSuperblock}
+use Rattle.superblock.specs.Superblock.{IncrementSuperblockCounter, wfSuperblock}
 use Rattle.tables.specs.Rows.{counted}
 use Rattle.ready.specs.declared.frozen.MaybeLocation.{MaybeLocation}
 use Rattle.ready.specs.declared.frozen.MaybeLocation.the-variants.{NoLocation, Received}
@@ -77,7 +77,7 @@ newOk g r new =
     also (also (also (also (noneOutstanding r)
     (newLocationOk (r .frozen) (r .superblock) new))
     (wfSuperblock g new))
-    (increments1 (r .superblock .counter) (new .counter)))
+    (eqb (new .counter) (IncrementSuperblockCounter (r .superblock .counter))))
     (noneFrozen (r .entries))
 
 abbrev pub inFlightOk : Geometry → Ready → Commit → Bool

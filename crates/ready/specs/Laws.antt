@@ -2,3 +2,4 @@
 pub mod Ring
 pub mod Asked
 pub mod Next
+pub mod Facts

@@ -49,10 +49,10 @@ impl Ready {
         ensures { λ r. ⌜ r ≡ advancedLog self ⌝ }
     {
         let s = self.superblock;
-        let counter = increment_superblock_counter(s.counter);
+        let next = increment_superblock_counter(s.counter);
         let loc = s.indirectionTableLoc;
         Superblock {
-            counter,
+            counter: next,
             journalStart: s.journalStart,
             journalLen: self.writtenJournalLen,
             indirectionTableLoc: loc,

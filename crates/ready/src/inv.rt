@@ -8,8 +8,10 @@ use super::sums::fits;
 use super::sums::less;
 use layout::Geometry;
 use superblock::Superblock;
-use superblock::increments1;
+use superblock::increment_superblock_counter;
 ghost use mathlib.Core.Path.{_≡_};
+ghost use lib.Dec.{eqb};
+ghost use Rattle.superblock.specs.Superblock.{IncrementSuperblockCounter};
 ghost use Rattle.ready.specs.Inv.{extentOk, advanceLogOk, advanceLocationOk, newLocationOk, newOk, commitOk, invOk, readyOk};
 
 // whichSuperblock, writtenJournalLen and the superblock's journalLen.
@@ -60,6 +62,14 @@ fn new_location_ok(f: Frozen, s: Superblock, new: Superblock) -> bool
     a | b
 }
 
+// Its counter: the one after the superblock's.
+fn counter_ok(counter: u64, new: u64) -> bool
+    ensures { λ r. ⌜ r ≡ eqb new (IncrementSuperblockCounter counter) ⌝ }
+{
+    let next = increment_superblock_counter(counter);
+    new == next
+}
+
 impl Ready {
     // The new superblock of either commit.
     fn new_ok(self, g: Geometry, new: Superblock) -> bool
@@ -70,7 +80,7 @@ impl Ready {
         let a = self.none_outstanding();
         let b = new_location_ok(f, s, new);
         let c = new.well_formed(g);
-        let d = increments1(s.counter, new.counter);
+        let d = counter_ok(s.counter, new.counter);
         let e = self.none_frozen();
         a & b & c & d & e
     }

@@ -13,15 +13,15 @@ new-location-ok-requires c κs = search needs
 well-formed-requires : tie.Need-well-formed-requires
 well-formed-requires c κs = search needs
 
-increments1-requires : tie.Need-increments1-requires
-increments1-requires c κs = search needs
+counter-ok-requires : tie.Need-counter-ok-requires
+counter-ok-requires c κs = search needs
 
 none-frozen-requires : tie.Need-none-frozen-requires
 none-frozen-requires c κs = search needs
 
 returns : tie.Need-returns
 unfolding newOk also
-returns c = search (tests, ← c .none-frozen .ensures, ← c .before .increments1 .ensures, ← c .before .before .well-formed .ensures, ← c .before .before .before .new-location-ok .ensures, ← c .before .before .before .before .none-outstanding .ensures)
+returns c = search (tests, ← c .none-frozen .ensures, ← c .before .counter-ok .ensures, ← c .before .before .well-formed .ensures, ← c .before .before .before .new-location-ok .ensures, ← c .before .before .before .before .none-outstanding .ensures)
 
 pub new-ok-spec : {M : Type 1} → statement M
 new-ok-spec =
@@ -30,6 +30,6 @@ new-ok-spec =
     none-outstanding-requires
     new-location-ok-requires
     well-formed-requires
-    increments1-requires
+    counter-ok-requires
     none-frozen-requires
     returns)
