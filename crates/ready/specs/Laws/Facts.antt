@@ -165,11 +165,11 @@ module _ (g : Geometry) (written : ℕ) (f : Frozen) (superblock new : Superbloc
       (le-leb (f .frozenJournalPosition + new .journalLen) written (a .new-end))
 
 -- the received location is this one
-received-is : (m : MaybeLocation) (loc : Location) → isLocation m loc ≡ true → m ≡ Received loc
+pub received-is : (m : MaybeLocation) (loc : Location) → isLocation m loc ≡ true → m ≡ Received loc
 received-is NoLocation loc e = false-true e
 received-is (Received received) loc e = λ i. Received (same-location received loc e i)
 
-is-received : (m : MaybeLocation) (loc : Location) → m ≡ Received loc → isLocation m loc ≡ true
+pub is-received : (m : MaybeLocation) (loc : Location) → m ≡ Received loc → isLocation m loc ≡ true
 is-received NoLocation loc e = ruin (cc)
 is-received (Received received) loc e = location-same received loc (cc)
 
