@@ -11,7 +11,6 @@ use Rattle.superblock.specs.declared.superblock.Superblock.{Superblock}
 use Rattle.superblock.specs.Superblock.{IncrementSuperblockCounter}
 use Rattle.ready.specs.declared.frozen.MaybeLocation.{MaybeLocation}
 use Rattle.ready.specs.declared.frozen.MaybeLocation.the-variants.{NoLocation, Received}
-use Rattle.ready.specs.declared.frozen.Frozen.{Frozen}
 use Rattle.ready.specs.declared.commit.Commit.{Commit}
 use Rattle.ready.specs.declared.commit.Commit.the-variants.{CommitNone, CommitAdvanceLog, CommitAdvanceLocation}
 use Rattle.ready.specs.declared.ready.Ready.{Ready}

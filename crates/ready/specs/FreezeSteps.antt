@@ -1,6 +1,6 @@
 -- The questions and the effect of Freeze and of ReceiveFrozenLoc.
 use Prim.Native.Nat.{ℕ}
-use mathlib.Core.Bool.{Bool, true, not}
+use mathlib.Core.Bool.{true, not}
 use Rattle.laws.specs.Choice.{also, andThen, ask}
 use Rattle.layout.specs.declared.geometry.Geometry.{Geometry}
 use Rattle.layout.specs.declared.location.Location.{Location}

@@ -2,7 +2,7 @@
 -- superblockWrite.Some? <==> newSuperblock.Some?, superblockWrite.None? <==> commitStatus.CommitNone?, and that a commit has its new
 -- superblock and one of the two kinds.
 use Prim.Native.Nat.{ℕ, _+_, _-_}
-use mathlib.Core.Bool.{Bool, true, false, not}
+use mathlib.Core.Bool.{Bool, true, not}
 use lib.Dec.{leb, eqb}
 use Rattle.laws.specs.Choice.{also, either}
 use Rattle.layout.specs.declared.geometry.Geometry.{Geometry}

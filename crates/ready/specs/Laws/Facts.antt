@@ -3,13 +3,11 @@ use Prim.Native.Nat.{ℕ, _+_, _-_, _≤_}
 use mathlib.Core.Bool.{Bool, true, false, not}
 use mathlib.Core.Path.{_≡_, refl, sym}
 use mathlib.Core.Logic.{_⊎_, inl, inr, ⊎-elim}
-use native.Mathlib.Omega.{arith}
 use lib.Dec.{eqb}
 use borrow.Author.Tests.{leb-true, le-leb, eqb-true, eq-eqb, eqb-false}
-use Rattle.laws.specs.Choice.{also, either, also-left, also-right, also-both, either-left, either-right, either-cases, false-true, ruin, split-bool}
+use Rattle.laws.specs.Choice.{either, also-left, also-right, also-both, either-left, either-right, either-cases, false-true, ruin, split-bool}
 use Rattle.layout.specs.declared.geometry.Geometry.{Geometry}
 use Rattle.layout.specs.declared.location.Location.{Location}
-use Rattle.layout.specs.Location.{sameLocation}
 use Rattle.layout.specs.Journal.{JournalPosAdd}
 use Rattle.layout.specs.Laws.{ValidIndirectionTableLocation, table-location-facts, facts-table-location, same-location, location-same}
 use Rattle.superblock.specs.declared.superblock.Superblock.{Superblock}

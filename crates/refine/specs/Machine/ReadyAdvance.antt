@@ -81,12 +81,21 @@ module _ (l : ReadyLent) (sync : Map SyncReqStatus) (r : Ready) (p : PendingForm
       → length (frozenOf l (r .entries)) + length (memoryOf l (r .entries) ++ es) ≤ limits .entries
       → sum (lengths (frozenOf l (r .entries))) + sum (lengths (memoryOf l (r .entries) ++ es)) ≤ limits .bytes
       → (askAdvance limits r held (count k (total sizes k)) ≡ 0) × (M.Variables.Ready (readyOf l′ sync (advanceNext r (n + k))) ≡ s′) × (dop ≡ NoDiskOp)
-  advance-complete limits q s′ dop h few small =
-      (asks-advance limits r held (count k (total sizes k))
-      (record {
-        all-replayed = replayed-all l (r .entries) q (h .replayed);
-        entries-fit = omega (arith, few, pending-few-is l (r .entries) p, length-append (memoryOf l (r .entries)) es, length-view bodies sizes k (given .there));
-        bytes-fit =
-            omega (arith, small, pending-small-is l (r .entries) p, ap sum (lengths-append (memoryOf l (r .entries)) es),
-            sum-append (lengths (memoryOf l (r .entries))) (lengths es), ap sum (lengths-view bodies sizes k (given .fit)));
-      }), ap M.Variables.Ready advance-next ∙ sym (h .next), h .op)
+  advance-complete limits q s′ dop h few small = (
+    asks-advance limits r held (count k (total sizes k))
+        (record {
+          all-replayed = replayed-all l (r .entries) q (h .replayed);
+          entries-fit = omega (arith, few, pending-few-is l (r .entries) p, length-append (memoryOf l (r .entries)) es, length-view bodies sizes k (given .there));
+          bytes-fit =
+              omega (
+                arith,
+                small,
+                pending-small-is l (r .entries) p,
+                ap sum (lengths-append (memoryOf l (r .entries)) es),
+                sum-append (lengths (memoryOf l (r .entries))) (lengths es),
+                ap sum (lengths-view bodies sizes k (given .fit)),
+              );
+        }),
+    ap M.Variables.Ready advance-next ∙ sym (h .next),
+    h .op,
+  )

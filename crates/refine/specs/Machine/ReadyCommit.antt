@@ -14,15 +14,14 @@ use Rattle.superblock.specs.declared.superblock.Superblock.{Superblock}
 use Rattle.tables.specs.Laws.IdTables.{ids-none}
 use Rattle.ready.specs.declared.commit.Commit.{Commit}
 use Rattle.ready.specs.declared.commit.Commit.the-variants as commit
-use Rattle.ready.specs.declared.commit_steps.NewSuperblock.the-variants as new
+use Rattle.ready.specs.declared.frozen.MaybeLocation.the-variants.{Received}
 use Rattle.ready.specs.declared.ready.Ready.{Ready}
 use Rattle.ready.specs.State.{awaitsId, commitSlot, withCommit}
-use Rattle.ready.specs.CommitSteps.{advancedLog, advanceLog, advanceLogNext, advancedLocation, advanceLocation, advanceLocationNext, logCommitted, locationCommitted, answered, writeBackSuperblockRespNext}
+use Rattle.ready.specs.CommitSteps.{askAdvanceLog, advancedLog, advanceLogNext, askAdvanceLocation, advancedLocation, advanceLocationNext, logCommitted, locationCommitted, answered, writeBackSuperblockRespNext}
 use Rattle.ready.specs.Laws.Asked.{MayCommit, log-asked, asks-log, location-asked, asks-location}
-use Rattle.ready.specs.Laws.Answers.{log-offered, offers-log, location-offered, offers-location}
 use Rattle.source.specs.JournalDisk.{ReqId, DiskOp, ReqWriteSuperblockOp, RespWriteSuperblockOp}
 use Rattle.source.specs.JournalCache as M
-use Rattle.source.specs.JournalCache.{SyncReqStatus, CommitAdvanceLog, CommitAdvanceLocation, ReadyVariables, syncReqs2to1, to-newSuperblock, to-superblockWrite, to-commitStatus, to-superblock, to-whichSuperblock, to-syncReqs, to-writtenJournalLen, to-frozenJournalPosition, to-frozenLoc, to-isFrozen, WriteBackSuperblockReq-AdvanceLogClauses, WriteBackSuperblockReq-AdvanceLocationClauses, WriteBackSuperblockRespClauses}
+use Rattle.source.specs.JournalCache.{SyncReqStatus, ReadyVariables, syncReqs2to1, to-newSuperblock, to-superblockWrite, to-commitStatus, to-superblock, to-whichSuperblock, to-syncReqs, to-writtenJournalLen, to-frozenJournalPosition, to-frozenLoc, to-isFrozen, WriteBackSuperblockReq-AdvanceLogClauses, WriteBackSuperblockReq-AdvanceLocationClauses, WriteBackSuperblockRespClauses}
 use Rattle.refine.specs.Machine.ReadyView.{ReadyLent, locationOf, slotOf, statusOf, readyOf}
 use Rattle.refine.specs.Machine.ReadyCases.{location-seen, seen-received, commit-status, none-flight, flight-none, slot-other, seen-awaits}
 use Rattle.refine.specs.Machine.ReadyForm.{ReadyForm, table-none, none-frozen, frozen-none}
@@ -41,60 +40,48 @@ module _ (g : Geometry) (l : ReadyLent) (sync : Map SyncReqStatus) (r : Ready) (
       }
 
   -- a log commit
-  log-next : (id : ReqId) (s : Superblock) → s ≡ advancedLog r
-      → M.Variables.Ready (readyOf l sync (advanceLogNext r id s))
-          ≡ M.Variables.Ready (to-newSuperblock (some (M.advancedLog (readyOf l sync r))) (to-superblockWrite (some id) (to-commitStatus CommitAdvanceLog (readyOf l sync r))))
+  pub log-sound : (id : ReqId) → askAdvanceLog g r ≡ 0
+      → WriteBackSuperblockReq-AdvanceLogClauses g (readyOf l sync r) (M.Variables.Ready (readyOf l sync (advanceLogNext r id (advancedLog r)))) (commitOp r id (advancedLog r))
   unfolding advancedLog
-  log-next id s e = λ i. M.Variables.Ready (to-newSuperblock (some (e i)) (to-superblockWrite (some id) (to-commitStatus CommitAdvanceLog (readyOf l sync r))))
-
-  pub log-sound : (id : ReqId) (s : Superblock) → advanceLog g r ≡ new.Is s
-      → WriteBackSuperblockReq-AdvanceLogClauses g (readyOf l sync r) (M.Variables.Ready (readyOf l sync (advanceLogNext r id s))) (commitOp r id s)
-  unfolding advancedLog
-  log-sound id s e =
-      let o = log-offered g r s e in
-      let m = log-asked g r (o .0) in
+  log-sound id q =
+      let m = log-asked g r q in
       record {
         id = id;
         which = slotOf (commitSlot r);
-        req = record { superblock = s };
+        req = record { superblock = advancedLog r };
         op = refl;
         no-commit = commit-status (r .commit) .0 (none-flight (r .commit) (m .commit .no-commit));
         all-written = ids-none (r .writes) (m .commit .none-outstanding);
         none-frozen = none-frozen l (r .entries) (f .pending) (m .commit .none-frozen);
         which-is = slot-other (r .whichSuperblock) (f .which-in);
         written-in = m .written-in;
-        superblock-is = o .1;
-        next = log-next id s (o .1);
+        superblock-is = refl;
+        next = refl;
       }
 
   pub log-complete : (s′ : M.Variables) (dop : DiskOp) (h : WriteBackSuperblockReq-AdvanceLogClauses g (readyOf l sync r) s′ dop)
-      → (advanceLog g r ≡ new.Is (advancedLog r)) × (M.Variables.Ready (readyOf l sync (advanceLogNext r (h .id) (advancedLog r))) ≡ s′) × (dop ≡ commitOp r (h .id) (advancedLog r))
+      → (askAdvanceLog g r ≡ 0) × (M.Variables.Ready (readyOf l sync (advanceLogNext r (h .id) (advancedLog r))) ≡ s′) × (dop ≡ commitOp r (h .id) (advancedLog r))
   unfolding advancedLog
-  log-complete s′ dop h =
-      (offers-log g r (asks-log g r (record { commit = may-commit (h .no-commit) (h .all-written) (h .none-frozen); written-in = h .written-in })),
-      log-next (h .id) (advancedLog r) refl ∙ sym (h .next),
-      h .op ∙ (λ i. ReqWriteSuperblockOp (h .id) ((h .which-is ∙ sym (slot-other (r .whichSuperblock) (f .which-in))) i) (record { superblock = h .superblock-is i })))
+  log-complete s′ dop h = (
+    asks-log g r (record { commit = may-commit (h .no-commit) (h .all-written) (h .none-frozen); written-in = h .written-in }),
+    sym (h .next),
+    h .op ∙ (λ i. ReqWriteSuperblockOp (h .id) ((h .which-is ∙ sym (slot-other (r .whichSuperblock) (f .which-in))) i) (record { superblock = h .superblock-is i })),
+  )
 
   -- a location commit
-  location-next : (id : ReqId) (s : Superblock) (loc : Location) → s ≡ advancedLocation g r loc
-      → M.Variables.Ready (readyOf l sync (advanceLocationNext r id s))
-          ≡ M.Variables.Ready (to-newSuperblock (some (M.advancedLocation g (readyOf l sync r) loc)) (to-superblockWrite (some id) (to-commitStatus CommitAdvanceLocation (readyOf l sync r))))
+  pub location-sound : (id : ReqId) (loc : Location) → r .frozen .frozenLoc ≡ Received loc → askAdvanceLocation g r ≡ 0
+      → WriteBackSuperblockReq-AdvanceLocationClauses g (readyOf l sync r) (M.Variables.Ready (readyOf l sync (advanceLocationNext r id (advancedLocation g r loc))))
+      (commitOp r id (advancedLocation g r loc))
   unfolding advancedLocation
-  location-next id s loc e = λ i. M.Variables.Ready (to-newSuperblock (some (e i)) (to-superblockWrite (some id) (to-commitStatus CommitAdvanceLocation (readyOf l sync r))))
-
-  pub location-sound : (id : ReqId) (s : Superblock) → advanceLocation g r ≡ new.Is s
-      → WriteBackSuperblockReq-AdvanceLocationClauses g (readyOf l sync r) (M.Variables.Ready (readyOf l sync (advanceLocationNext r id s))) (commitOp r id s)
-  unfolding advancedLocation
-  location-sound id s e =
-      let o = location-offered g r s e in
-      let m = location-asked g r (o .asked) in
+  location-sound id loc e q =
+      let m = location-asked g r q in
       record {
         id = id;
         which = slotOf (commitSlot r);
-        req = record { superblock = s };
+        req = record { superblock = advancedLocation g r loc };
         op = refl;
-        loc = o .loc;
-        received = ap locationOf (o .received);
+        loc = loc;
+        received = ap locationOf e;
         no-commit = commit-status (r .commit) .0 (none-flight (r .commit) (m .commit .no-commit));
         all-written = ids-none (r .writes) (m .commit .none-outstanding);
         none-frozen = none-frozen l (r .entries) (f .pending) (m .commit .none-frozen);
@@ -102,27 +89,29 @@ module _ (g : Geometry) (l : ReadyLent) (sync : Map SyncReqStatus) (r : Ready) (
         start-in = m .start-in;
         position-in = m .position-in;
         written-in = m .written-in;
-        superblock-is = o .superblock-is;
-        next = location-next id s (o .loc) (o .superblock-is);
+        superblock-is = refl;
+        next = refl;
       }
 
   pub location-complete : (s′ : M.Variables) (dop : DiskOp) (h : WriteBackSuperblockReq-AdvanceLocationClauses g (readyOf l sync r) s′ dop)
-      → (advanceLocation g r ≡ new.Is (advancedLocation g r (h .loc)))
-          × (M.Variables.Ready (readyOf l sync (advanceLocationNext r (h .id) (advancedLocation g r (h .loc)))) ≡ s′)
-          × (dop ≡ commitOp r (h .id) (advancedLocation g r (h .loc)))
+      → (r .frozen .frozenLoc ≡ Received (h .loc))
+      × (askAdvanceLocation g r ≡ 0)
+      × (M.Variables.Ready (readyOf l sync (advanceLocationNext r (h .id) (advancedLocation g r (h .loc)))) ≡ s′)
+      × (dop ≡ commitOp r (h .id) (advancedLocation g r (h .loc)))
   unfolding advancedLocation
-  location-complete s′ dop h =
-      (offers-location g r (h .loc) (location-seen (r .frozen .frozenLoc) (h .loc) (h .received))
-      (asks-location g r
-      (record {
-        received = seen-received (r .frozen .frozenLoc) (h .loc, h .received);
-        commit = may-commit (h .no-commit) (h .all-written) (h .none-frozen);
-        start-in = h .start-in;
-        position-in = h .position-in;
-        written-in = h .written-in;
-      })),
-      location-next (h .id) (advancedLocation g r (h .loc)) (h .loc) refl ∙ sym (h .next),
-      h .op ∙ (λ i. ReqWriteSuperblockOp (h .id) ((h .which-is ∙ sym (slot-other (r .whichSuperblock) (f .which-in))) i) (record { superblock = h .superblock-is i })))
+  location-complete s′ dop h = (
+    location-seen (r .frozen .frozenLoc) (h .loc) (h .received),
+    asks-location g r
+        (record {
+          received = seen-received (r .frozen .frozenLoc) (h .loc, h .received);
+          commit = may-commit (h .no-commit) (h .all-written) (h .none-frozen);
+          start-in = h .start-in;
+          position-in = h .position-in;
+          written-in = h .written-in;
+        }),
+    sym (h .next),
+    h .op ∙ (λ i. ReqWriteSuperblockOp (h .id) ((h .which-is ∙ sym (slot-other (r .whichSuperblock) (f .which-in))) i) (record { superblock = h .superblock-is i })),
+  )
 
 -- a commit's answer, by the commit in flight; it needs nothing of the state but `which`
 module _ (l : ReadyLent) (sync : Map SyncReqStatus) (r : Ready) (w : r .whichSuperblock ≤ 1) where
@@ -221,19 +210,21 @@ module _ (l : ReadyLent) (sync : Map SyncReqStatus) (r : Ready) (w : r .whichSup
       → (awaitsId c (h .id) ≡ true) × (M.Variables.Ready (readyOf l (syncReqs2to1 sync) (answered (withCommit r c) (h .id) c)) ≡ s′) × (dop ≡ RespWriteSuperblockOp (h .id) (h .which))
   answer-complete commit.CommitNone s′ dop h = none-some refl (h .new-is)
   answer-complete (commit.CommitAdvanceLog k new) s′ dop h =
-      let a = seen-awaits (commit.CommitAdvanceLog k new) (h .id) (sym (h .waiting)) in
-      (a,
-      log-done (commit.CommitAdvanceLog k new) new (eqb k (h .id)) a
-      ∙ ap (logAnswered (readyOf l sync (withCommit r (commit.CommitAdvanceLog k new)))) (Option·some-injective new (h .new) (h .new-is))
-      ∙ sym (h .advance-log refl),
-      h .op)
+      let a = seen-awaits (commit.CommitAdvanceLog k new) (h .id) (sym (h .waiting)) in (
+        a,
+        log-done (commit.CommitAdvanceLog k new) new (eqb k (h .id)) a
+            ∙ ap (logAnswered (readyOf l sync (withCommit r (commit.CommitAdvanceLog k new)))) (Option·some-injective new (h .new) (h .new-is))
+            ∙ sym (h .advance-log refl),
+        h .op,
+      )
   answer-complete (commit.CommitAdvanceLocation k new) s′ dop h =
-      let a = seen-awaits (commit.CommitAdvanceLocation k new) (h .id) (sym (h .waiting)) in
-      (a,
-      location-done (commit.CommitAdvanceLocation k new) new (eqb k (h .id)) a
-      ∙ ap (locationAnswered (readyOf l sync (withCommit r (commit.CommitAdvanceLocation k new)))) (Option·some-injective new (h .new) (h .new-is))
-      ∙ sym (h .advance-location refl),
-      h .op)
+      let a = seen-awaits (commit.CommitAdvanceLocation k new) (h .id) (sym (h .waiting)) in (
+        a,
+        location-done (commit.CommitAdvanceLocation k new) new (eqb k (h .id)) a
+            ∙ ap (locationAnswered (readyOf l sync (withCommit r (commit.CommitAdvanceLocation k new)))) (Option·some-injective new (h .new) (h .new-is))
+            ∙ sym (h .advance-location refl),
+        h .op,
+      )
 
   pub superblock-resp-complete : (s′ : M.Variables) (dop : DiskOp) (h : WriteBackSuperblockRespClauses (readyOf l sync r) s′ dop)
       → (awaitsId (r .commit) (h .id) ≡ true) × (M.Variables.Ready (readyOf l (syncReqs2to1 sync) (writeBackSuperblockRespNext r (h .id))) ≡ s′) × (dop ≡ RespWriteSuperblockOp (h .id) (h .which))

@@ -1,8 +1,8 @@
 -- What the record of a machine at work adds to its view: `which` is 0 or 1, counts lie within the arrays and the memories, frozen within
 -- pending, taken within replay, and the ids of a table differ. Then the entries of the view by their lengths.
 use Prim.Native.Nat.{ℕ, _+_, _-_, _≤_}
-use mathlib.Core.Bool.{Bool, true}
-use mathlib.Core.Path.{_≡_, refl, sym, _∙_, ap}
+use mathlib.Core.Bool.{true}
+use mathlib.Core.Path.{_≡_, sym, _∙_, ap}
 use mathlib.Core.List.{List, [], _++_}
 use native.Mathlib.Omega.{arith}
 use lib.ListN.{length, take, drop, length-drop, take-append-drop}

@@ -2,7 +2,7 @@
 use Prim.Native.Nat.{_≤_}
 use mathlib.Core.Bool.{true}
 use mathlib.Core.Path.{_≡_, refl, sym, _∙_}
-use mathlib.Core.Option.{none, some}
+use mathlib.Core.Option.{none}
 use mathlib.Core.List.{[], _++_}
 use native.Mathlib.Omega.{arith}
 use lib.ListN.{length, drop, drop-of-length-le}
@@ -15,7 +15,7 @@ use Rattle.ready.specs.FreezeSteps.{askFreeze, freezeNext, askReceiveFrozenLoc,
 use Rattle.ready.specs.Laws.Asked.{freeze-asked, asks-freeze, receive-asked, asks-receive}
 use Rattle.source.specs.JournalDisk.{DiskOp, NoDiskOp}
 use Rattle.source.specs.JournalCache as M
-use Rattle.source.specs.JournalCache.{SyncReqStatus, ReadyVariables, syncReqs3to2, to-frozenLoc, to-inMemoryJournalFrozen, to-inMemoryJournal, to-frozenJournalPosition, to-syncReqs, to-isFrozen, FreezeClauses, ReceiveFrozenLocClauses}
+use Rattle.source.specs.JournalCache.{SyncReqStatus, syncReqs3to2, to-frozenLoc, to-inMemoryJournalFrozen, to-inMemoryJournal, to-frozenJournalPosition, to-syncReqs, to-isFrozen, FreezeClauses, ReceiveFrozenLocClauses}
 use Rattle.refine.specs.Machine.ReadyView.{ReadyLent, readyOf}
 use Rattle.refine.specs.Machine.ReadyCases.{none-seen, seen-none, other-seen, seen-other, none-flight, flight-none}
 use Rattle.refine.specs.Machine.ReadyForm.{PendingForm, ReplayForm, pending-is, all-replayed, replayed-all}
@@ -24,13 +24,13 @@ module _ (l : ReadyLent) (sync : Map SyncReqStatus) (r : Ready) where
   -- the view of the next record is 000's next state
   freeze-next : PendingForm l (r .entries)
       → M.Variables.Ready (readyOf l (syncReqs3to2 sync) (freezeNext r))
-          ≡ M.Variables.Ready
-              (to-frozenLoc none
-              (to-inMemoryJournalFrozen (readyOf l sync r .inMemoryJournalFrozen ++ readyOf l sync r .inMemoryJournal)
-              (to-inMemoryJournal []
-              (to-frozenJournalPosition (r .writtenJournalLen)
-              (to-syncReqs (syncReqs3to2 sync)
-              (to-isFrozen true (readyOf l sync r)))))))
+      ≡ M.Variables.Ready
+      (to-frozenLoc none
+      (to-inMemoryJournalFrozen (readyOf l sync r .inMemoryJournalFrozen ++ readyOf l sync r .inMemoryJournal)
+      (to-inMemoryJournal []
+      (to-frozenJournalPosition (r .writtenJournalLen)
+      (to-syncReqs (syncReqs3to2 sync)
+      (to-isFrozen true (readyOf l sync r)))))))
   unfolding freezeNext
   freeze-next p =
       λ i.
@@ -62,13 +62,16 @@ module _ (l : ReadyLent) (sync : Map SyncReqStatus) (r : Ready) where
 
   pub freeze-complete : PendingForm l (r .entries) → ReplayForm l (r .entries) → (s′ : M.Variables) (dop : DiskOp) → FreezeClauses (readyOf l sync r) s′ dop
       → (askFreeze r ≡ 0) × (M.Variables.Ready (readyOf l (syncReqs3to2 sync) (freezeNext r)) ≡ s′) × (dop ≡ NoDiskOp)
-  freeze-complete p q s′ dop h =
-      (asks-freeze r
-      (record {
-        no-commit = flight-none (r .commit) (h .no-write);
-        other-loc = seen-other (r .frozen .frozenLoc) (r .superblock .indirectionTableLoc) (h .other-loc);
-        all-replayed = replayed-all l (r .entries) q (h .replayed);
-      }), freeze-next p ∙ sym (h .next), h .op)
+  freeze-complete p q s′ dop h = (
+    asks-freeze r
+        (record {
+          no-commit = flight-none (r .commit) (h .no-write);
+          other-loc = seen-other (r .frozen .frozenLoc) (r .superblock .indirectionTableLoc) (h .other-loc);
+          all-replayed = replayed-all l (r .entries) q (h .replayed);
+        }),
+    freeze-next p ∙ sym (h .next),
+    h .op,
+  )
 
   pub receive-sound : (g : Geometry) (loc : Location) → askReceiveFrozenLoc g r loc ≡ 0
       → ReceiveFrozenLocClauses g (readyOf l sync r) (M.Variables.Ready (readyOf l sync (receiveFrozenLocNext r loc))) NoDiskOp loc

@@ -1,5 +1,5 @@
 -- WriteBackJournalReq and WriteBackJournalResp against 000, over document 01's range format.
-use Prim.Native.Nat.{ℕ, _+_, _-_, _≤_, _<_}
+use Prim.Native.Nat.{ℕ, _+_, _-_, _≤_}
 use mathlib.Core.Bool.{Bool, true, false, cond}
 use mathlib.Core.Path.{_≡_, refl, sym, _∙_, ap, subst}
 use mathlib.Core.List.{List, [], _∷_}
@@ -7,8 +7,8 @@ use mathlib.Core.Option.{Option, none, some}
 use native.Mathlib.Omega.{arith}
 use lib.Dec.{eqb}
 use lib.ListN.{length, take, drop}
-use borrow.Author.Tests.{eq-eqb, ne-eqb, eqb-true, eqb-false}
-use Rattle.laws.specs.Choice.{andThen-left, andThen-right, andThen-both, split-bool, split-eq, true-false}
+use borrow.Author.Tests.{eq-eqb, ne-eqb, eqb-true}
+use Rattle.laws.specs.Choice.{andThen-left, andThen-right, andThen-both}
 use Rattle.laws.specs.Sets.{Ids, Map, join, leave, AtMost, few-before, leave-same}
 use Rattle.laws.specs.Splice.{splice}
 use Rattle.layout.specs.declared.geometry.Geometry.{Geometry}
@@ -16,8 +16,8 @@ use Rattle.layout.specs.Journal.{JournalPosAdd}
 use Rattle.superblock.specs.declared.disk_op.MaybeId.{MaybeId}
 use Rattle.superblock.specs.declared.disk_op.MaybeId.the-variants.{Id, NoId}
 use Rattle.tables.specs.declared.id_table.IdTable.{IdTable}
-use Rattle.tables.specs.Rows.{Counted, placeOf, askJoin}
-use Rattle.tables.specs.IdTable.{idSet, SizedIds, joinedId, removedId}
+use Rattle.tables.specs.Rows.{Counted, askJoin}
+use Rattle.tables.specs.IdTable.{idSet, SizedIds, joinedId}
 use Rattle.tables.specs.Laws.Counts.{few-count, few-join}
 use Rattle.tables.specs.Laws.IdTables.{ids-joined, ids-joined-ok, ids-left, sized-joined-ids}
 use Rattle.range.specs.Form as Form
@@ -27,15 +27,13 @@ use Rattle.memory.specs.declared.count.Count.{Count}
 use Rattle.ready.specs.declared.entries.Entries.{Entries}
 use Rattle.ready.specs.declared.entries.Bodies.{Bodies}
 use Rattle.ready.specs.declared.ready.Ready.{Ready}
-use Rattle.ready.specs.declared.journal_steps.JournalWrite.the-variants as write
 use Rattle.ready.specs.State.{noneFrozen, count, sent, left}
 use Rattle.ready.specs.Inv.{MostWrites}
-use Rattle.ready.specs.JournalSteps.{sentBlocks, askSecond, askIds, joinedIds, writtenEntries, writtenFrozen, writeBackJournalReq, writeBackJournalReqNext, writeBackJournalRespNext}
+use Rattle.ready.specs.JournalSteps.{sentBlocks, askSecond, askIds, joinedIds, writtenEntries, writtenFrozen, askWriteBackJournalReq, writeBackJournalReqNext, writeBackJournalRespNext}
 use Rattle.ready.specs.Laws.Asked.{MayWrite, write-asked, asks-write}
-use Rattle.ready.specs.Laws.Answers.{Sent, range-sent, sends-range}
 use Rattle.codec.specs.Codec.{JournalEntry, JournalRange}
 use Rattle.codec.specs.Format.{format, length-encodeBlocks, good-facts}
-use Rattle.source.specs.JournalDisk.{ReqId, DiskOp, ReqWriteJournal, ReqWriteJournalOp, RespWriteJournalOp}
+use Rattle.source.specs.JournalDisk.{ReqId, DiskOp, ReqWriteJournalOp, RespWriteJournalOp}
 use Rattle.source.specs.JournalCache as M
 use Rattle.source.specs.JournalCache.{SyncReqStatus, ReadyVariables, ifNone, toWrite, joinIds, syncReqs3to2, to-outstandingJournalWrites, to-writtenJournalLen, to-frozenJournalPosition, to-inMemoryJournal, to-inMemoryJournalFrozen, to-syncReqs, WriteBackJournalReqClauses, WriteBackJournalRespClauses}
 use Rattle.source.specs.Limits.{Limits, Fitting}
@@ -175,13 +173,13 @@ module _ (l : ReadyLent) (sync : Map SyncReqStatus) (r : Ready) (b : Bodies) (fo
   -- the view of the next record and of moved memory is 000's next state
   write-next : (id1 : ReqId) (id2 : MaybeId) (written : ℕ) → askIds (r .writes) id1 id2 ≡ 0 → written ≡ r .writtenJournalLen + sentBlocks r b
       → M.Variables.Ready (readyOf (movedLent l (sent (r .entries) b) (left (r .entries) b)) (writtenSync (r .entries) sync) (writeBackJournalReqNext r id1 id2 written))
-          ≡ M.Variables.Ready
-              (to-outstandingJournalWrites (joinIds (idSet (r .writes)) id1 (idOf id2))
-              (to-writtenJournalLen (r .writtenJournalLen + length (sentRange s))
-              (to-frozenJournalPosition (ifNone (frozenOf l (r .entries)) (r .frozen .frozenJournalPosition) (r .writtenJournalLen + length (sentRange s)))
-              (to-inMemoryJournal (ifNone (frozenOf l (r .entries)) [] (memoryOf l (r .entries)))
-              (to-inMemoryJournalFrozen []
-              (to-syncReqs (ifNone (frozenOf l (r .entries)) (syncReqs3to2 sync) sync) s))))))
+      ≡ M.Variables.Ready
+      (to-outstandingJournalWrites (joinIds (idSet (r .writes)) id1 (idOf id2))
+      (to-writtenJournalLen (r .writtenJournalLen + length (sentRange s))
+      (to-frozenJournalPosition (ifNone (frozenOf l (r .entries)) (r .frozen .frozenJournalPosition) (r .writtenJournalLen + length (sentRange s)))
+      (to-inMemoryJournal (ifNone (frozenOf l (r .entries)) [] (memoryOf l (r .entries)))
+      (to-inMemoryJournalFrozen []
+      (to-syncReqs (ifNone (frozenOf l (r .entries)) (syncReqs3to2 sync) sync) s))))))
   unfolding writeBackJournalReqNext writtenFrozen writtenEntries
   write-next id1 id2 written q w =
       λ i.
@@ -212,61 +210,65 @@ module _ (l : ReadyLent) (sync : Map SyncReqStatus) (r : Ready) (b : Bodies) (fo
       ap length (sent-is l (r .entries) b (form .pending) found)
       ∙ length-view (l .bytes) (l .lens) (sent (r .entries) b .entries) (omega (arith, sent-within l (r .entries) b (form .pending) found, form .pending .there))
 
-  pub write-sound : (g : Geometry) (L : Limits) → Fitting format L → MachineMeets g L (M.Variables.Ready s) → (id1 : ReqId) (id2 : MaybeId) (start blocks written : ℕ)
-      → writeBackJournalReq g r id1 id2 b ≡ write.Range start blocks written
-      → WriteBackJournalReqClauses g format s
-          (M.Variables.Ready (readyOf (movedLent l (sent (r .entries) b) (left (r .entries) b)) (writtenSync (r .entries) sync) (writeBackJournalReqNext r id1 id2 written)))
-          (writeOp s id1 id2 start) (sentRange s)
-          × OneRange format (toWrite s) (sentRange s)
-          × (blocks ≡ length (sentRange s))
-  write-sound g L fits meets id1 id2 start blocks written e =
-      (record {
-        parses = format .parse-encode (toWrite s) good;
-        fits = omega (arith, blocks-sent, m .fits);
-        some-block = format .encode-some (toWrite s);
-        no-write = none-flight (r .commit) (m .no-commit);
-        start-in = m .start-in;
-        written-in = m .written-in;
-        id1 = id1;
-        id2 = idOf id2;
-        req = record { journal = sentRange s; start = start };
-        op = refl;
-        journal-is = refl;
-        start-is = o .start-is;
-        next = write-next id1 id2 written (m .ids-fit) (o .written-is);
-      }, record { good = good; range-is = refl }, o .blocks-is ∙ sym blocks-sent)
-    where
-      o : Sent g r id1 id2 b start blocks written
-      o = range-sent g r id1 id2 b start blocks written e
+  -- where the range goes, and what is written then
+  abbrev start : Geometry → ℕ
+  start g = JournalPosAdd g (r .superblock .journalStart) (r .writtenJournalLen)
 
+  abbrev written : ℕ
+  written = r .writtenJournalLen + sentBlocks r b
+
+  pub write-sound : (g : Geometry) (L : Limits) → Fitting format L → MachineMeets g L (M.Variables.Ready s) → (id1 : ReqId) (id2 : MaybeId) → askWriteBackJournalReq g r id1 id2 b ≡ 0
+      → WriteBackJournalReqClauses g format s
+      (M.Variables.Ready (readyOf (movedLent l (sent (r .entries) b) (left (r .entries) b)) (writtenSync (r .entries) sync) (writeBackJournalReqNext r id1 id2 written)))
+      (writeOp s id1 id2 (start g)) (sentRange s)
+      × OneRange format (toWrite s) (sentRange s)
+      × (sentBlocks r b ≡ length (sentRange s))
+  write-sound g L fits meets id1 id2 q = (
+    record {
+      parses = format .parse-encode (toWrite s) good;
+      fits = omega (arith, blocks-sent, m .fits);
+      some-block = format .encode-some (toWrite s);
+      no-write = none-flight (r .commit) (m .no-commit);
+      start-in = m .start-in;
+      written-in = m .written-in;
+      id1 = id1;
+      id2 = idOf id2;
+      req = record { journal = sentRange s; start = start g };
+      op = refl;
+      journal-is = refl;
+      start-is = refl;
+      next = write-next id1 id2 written (m .ids-fit) refl;
+    },
+    record { good = good; range-is = refl },
+    sym blocks-sent,
+  )
+    where
       m : MayWrite g r id1 id2 b
-      m = write-asked g r id1 id2 b (o .asked)
+      m = write-asked g r id1 id2 b q
 
       good : format .good (toWrite s) ≡ true
       good = write-good g format L fits s meets (omega (arith, length-sent, m .some-pending))
 
   pub write-complete : (g : Geometry) → SizedIds (r .writes) → (s′ : M.Variables) (dop : DiskOp) (jr : JournalRange) (h : WriteBackJournalReqClauses g format s s′ dop jr)
       → OneRange format (toWrite s) jr → AtMost MostWrites (joinIds (idSet (r .writes)) (h .id1) (h .id2))
-      → (writeBackJournalReq g r (h .id1) (maybeId (h .id2)) b
-              ≡ write.Range (JournalPosAdd g (r .superblock .journalStart) (r .writtenJournalLen)) (sentBlocks r b) (r .writtenJournalLen + sentBlocks r b))
-          × (M.Variables.Ready
-                  (readyOf (movedLent l (sent (r .entries) b) (left (r .entries) b)) (writtenSync (r .entries) sync)
-                  (writeBackJournalReqNext r (h .id1) (maybeId (h .id2)) (r .writtenJournalLen + sentBlocks r b)))
-              ≡ s′)
-          × (dop ≡ writeOp s (h .id1) (maybeId (h .id2)) (JournalPosAdd g (r .superblock .journalStart) (r .writtenJournalLen)))
-  write-complete g z s′ dop jr h one few =
-      (sends-range g r (h .id1) id2 b
-      (asks-write g r (h .id1) id2 b
-      (record {
-        no-commit = flight-none (r .commit) (h .no-write);
-        some-pending = omega (arith, length-sent, good-facts (toWrite s) (one .good) .any);
-        start-in = h .start-in;
-        written-in = h .written-in;
-        fits = omega (arith, h .fits, blocks-sent, ap length (one .range-is));
-        ids-fit = room;
-      })),
-      write-next (h .id1) id2 (r .writtenJournalLen + sentBlocks r b) room refl ∙ same ∙ sym (h .next),
-      h .op ∙ (λ i. ReqWriteJournalOp (h .id1) (sym (id-seen (h .id2)) i) (record { journal = (h .journal-is ∙ one .range-is) i; start = h .start-is i })))
+      → (askWriteBackJournalReq g r (h .id1) (maybeId (h .id2)) b ≡ 0)
+      × (M.Variables.Ready
+      (readyOf (movedLent l (sent (r .entries) b) (left (r .entries) b)) (writtenSync (r .entries) sync) (writeBackJournalReqNext r (h .id1) (maybeId (h .id2)) written))
+      ≡ s′)
+      × (dop ≡ writeOp s (h .id1) (maybeId (h .id2)) (start g))
+  write-complete g z s′ dop jr h one few = (
+    asks-write g r (h .id1) id2 b
+        (record {
+          no-commit = flight-none (r .commit) (h .no-write);
+          some-pending = omega (arith, length-sent, good-facts (toWrite s) (one .good) .any);
+          start-in = h .start-in;
+          written-in = h .written-in;
+          fits = omega (arith, h .fits, blocks-sent, ap length (one .range-is));
+          ids-fit = room;
+        }),
+    write-next (h .id1) id2 written room refl ∙ same ∙ sym (h .next),
+    h .op ∙ (λ i. ReqWriteJournalOp (h .id1) (sym (id-seen (h .id2)) i) (record { journal = (h .journal-is ∙ one .range-is) i; start = h .start-is i })),
+  )
     where
       id2 : MaybeId
       id2 = maybeId (h .id2)
@@ -289,19 +291,19 @@ module _ (l : ReadyLent) (sync : Map SyncReqStatus) (r : Ready) (b : Bodies) (fo
 
       -- the next state's ids and blocks are the predicate's
       same : M.Variables.Ready
-              (to-outstandingJournalWrites (joinIds (idSet (r .writes)) (h .id1) (idOf id2))
-              (to-writtenJournalLen (r .writtenJournalLen + length (sentRange s))
-              (to-frozenJournalPosition (ifNone (frozenOf l (r .entries)) (r .frozen .frozenJournalPosition) (r .writtenJournalLen + length (sentRange s)))
-              (to-inMemoryJournal (ifNone (frozenOf l (r .entries)) [] (memoryOf l (r .entries)))
-              (to-inMemoryJournalFrozen []
-              (to-syncReqs (ifNone (frozenOf l (r .entries)) (syncReqs3to2 sync) sync) s))))))
+          (to-outstandingJournalWrites (joinIds (idSet (r .writes)) (h .id1) (idOf id2))
+          (to-writtenJournalLen (r .writtenJournalLen + length (sentRange s))
+          (to-frozenJournalPosition (ifNone (frozenOf l (r .entries)) (r .frozen .frozenJournalPosition) (r .writtenJournalLen + length (sentRange s)))
+          (to-inMemoryJournal (ifNone (frozenOf l (r .entries)) [] (memoryOf l (r .entries)))
+          (to-inMemoryJournalFrozen []
+          (to-syncReqs (ifNone (frozenOf l (r .entries)) (syncReqs3to2 sync) sync) s))))))
           ≡ M.Variables.Ready
-              (to-outstandingJournalWrites (joinIds (idSet (r .writes)) (h .id1) (h .id2))
-              (to-writtenJournalLen (r .writtenJournalLen + length jr)
-              (to-frozenJournalPosition (ifNone (frozenOf l (r .entries)) (r .frozen .frozenJournalPosition) (r .writtenJournalLen + length jr))
-              (to-inMemoryJournal (ifNone (frozenOf l (r .entries)) [] (memoryOf l (r .entries)))
-              (to-inMemoryJournalFrozen []
-              (to-syncReqs (ifNone (frozenOf l (r .entries)) (syncReqs3to2 sync) sync) s))))))
+          (to-outstandingJournalWrites (joinIds (idSet (r .writes)) (h .id1) (h .id2))
+          (to-writtenJournalLen (r .writtenJournalLen + length jr)
+          (to-frozenJournalPosition (ifNone (frozenOf l (r .entries)) (r .frozen .frozenJournalPosition) (r .writtenJournalLen + length jr))
+          (to-inMemoryJournal (ifNone (frozenOf l (r .entries)) [] (memoryOf l (r .entries)))
+          (to-inMemoryJournalFrozen []
+          (to-syncReqs (ifNone (frozenOf l (r .entries)) (syncReqs3to2 sync) sync) s))))))
       same =
           λ i.
           M.Variables.Ready

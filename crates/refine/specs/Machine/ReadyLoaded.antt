@@ -1,12 +1,11 @@
 -- The record that FinishLoadingOtherPhase makes of the selected superblock, its slot and n replay entries, against 000.
 use Prim.Native.Nat.{ℕ, _-_, _≤_, _<_}
-use mathlib.Core.Bool.{Bool, true, false}
-use mathlib.Core.Path.{_≡_, refl, sym, _∙_, ap}
+use mathlib.Core.Bool.{true, false}
+use mathlib.Core.Path.{_≡_, refl, sym}
 use mathlib.Core.List.{List, []}
 use mathlib.Core.Option.{none, some}
 use native.Mathlib.Nat.{sub-zero}
-use lib.ListN.{drop}
-use Rattle.laws.specs.Sets.{Map, at, no-ids}
+use Rattle.laws.specs.Sets.{at, no-ids}
 use Rattle.layout.specs.declared.geometry.Geometry.{Geometry}
 use Rattle.layout.specs.Geometry.{NumJournalBlocks}
 use Rattle.interval.specs.declared.interval.JournalInterval.{JournalInterval}
@@ -18,7 +17,7 @@ use Rattle.ready.specs.State.{loaded}
 use Rattle.codec.specs.Codec.{JournalEntry, JournalRange, Codec, JournalRangeParses}
 use Rattle.source.specs.JournalDisk.{DiskOp, NoDiskOp}
 use Rattle.source.specs.JournalCache as M
-use Rattle.source.specs.JournalCache.{SyncReqStatus, ReadyVariables, LoadingOtherVariables, FinishLoadingOtherPhaseClauses}
+use Rattle.source.specs.JournalCache.{ReadyVariables, LoadingOtherVariables, FinishLoadingOtherPhaseClauses}
 use Rattle.refine.specs.Machine.ReadyView.{ReadyLent, slotOf, readyOf}
 
 -- 000's next state, with the departure's position 0
@@ -74,25 +73,27 @@ loaded-clauses g C s es h =
 
 pub clauses-loaded : (g : Geometry) (C : Codec) (s : LoadingOtherVariables) (s′ : ReadyVariables) (dop : DiskOp) → FinishLoadingOtherPhaseClauses g C s s′ dop
     → s′ .frozenJournalPosition ≡ 0 → Loads g C s (s′ .replayJournal) × (loadedState s (s′ .replayJournal) ≡ s′) × (dop ≡ NoDiskOp)
-clauses-loaded g C s s′ dop h z =
-    (record { start-in = h .start-in; len-in = h .len-in; front-in = h .front-in; back-in = h .back-in; parses = h .parses },
-    (λ i.
-    record {
-      frozenLoc = sym (h .frozenLoc-is) i;
-      isFrozen = sym (h .isFrozen-is) i;
-      frozenJournalPosition = sym z i;
-      superblockWrite = sym (h .superblockWrite-is) i;
-      inMemoryJournalFrozen = sym (h .inMemoryJournalFrozen-is) i;
-      inMemoryJournal = sym (h .inMemoryJournal-is) i;
-      outstandingJournalWrites = sym (h .outstandingJournalWrites-is) i;
-      writtenJournalLen = sym (h .writtenJournalLen-is) i;
-      replayJournal = s′ .replayJournal;
-      superblock = sym (h .superblock-is) i;
-      whichSuperblock = sym (h .whichSuperblock-is) i;
-      commitStatus = sym (h .commitStatus-is) i;
-      newSuperblock = sym (h .newSuperblock-is) i;
-      syncReqs = sym (h .syncReqs-is) i;
-    }), h .op)
+clauses-loaded g C s s′ dop h z = (
+  record { start-in = h .start-in; len-in = h .len-in; front-in = h .front-in; back-in = h .back-in; parses = h .parses },
+  (λ i.
+      record {
+        frozenLoc = sym (h .frozenLoc-is) i;
+        isFrozen = sym (h .isFrozen-is) i;
+        frozenJournalPosition = sym z i;
+        superblockWrite = sym (h .superblockWrite-is) i;
+        inMemoryJournalFrozen = sym (h .inMemoryJournalFrozen-is) i;
+        inMemoryJournal = sym (h .inMemoryJournal-is) i;
+        outstandingJournalWrites = sym (h .outstandingJournalWrites-is) i;
+        writtenJournalLen = sym (h .writtenJournalLen-is) i;
+        replayJournal = s′ .replayJournal;
+        superblock = sym (h .superblock-is) i;
+        whichSuperblock = sym (h .whichSuperblock-is) i;
+        commitStatus = sym (h .commitStatus-is) i;
+        newSuperblock = sym (h .newSuperblock-is) i;
+        syncReqs = sym (h .syncReqs-is) i;
+      }),
+  h .op,
+)
 
 -- the view of the record
 pub loaded-view : (l : ReadyLent) (s : LoadingOtherVariables) (superblock : Superblock) (which n : ℕ) → superblock ≡ s .superblock → slotOf which ≡ s .whichSuperblock

@@ -1,40 +1,36 @@
 -- Question 2 of a machine at work: the test of the record, together with what a look at lent memory finds, says yes exactly where the view
 -- meets `Inv` and the limits and the record is in form.
-use Prim.Native.Nat.{ℕ, _+_, _-_, _*_, _≤_}
-use mathlib.Core.Bool.{Bool, true}
+use Prim.Native.Nat.{_+_, _-_, _*_, _≤_}
+use mathlib.Core.Bool.{true}
 use mathlib.Core.Path.{_≡_, refl, sym, _∙_, ap, subst}
-use mathlib.Core.List.{List, []}
-use mathlib.Core.Option.{Option, none, some, Option·some-injective}
-use mathlib.Core.Logic.{_↔_, _⊎_, inl, inr, ⊎-elim}
+use mathlib.Core.Option.{some, Option·some-injective}
+use mathlib.Core.Logic.{_⊎_, inl, inr, ⊎-elim}
 use native.Mathlib.Omega.{arith}
 use lib.ListN.{length, take, drop}
 use Rattle.laws.specs.Choice.{ruin}
 use Rattle.laws.specs.Fold.{every}
 use Rattle.laws.specs.Sets.{Map, keys, AtMost, none-some}
 use Rattle.layout.specs.declared.geometry.Geometry.{Geometry}
-use Rattle.layout.specs.declared.location.Location.{Location}
 use Rattle.layout.specs.Geometry.{NumJournalBlocks}
 use Rattle.superblock.specs.declared.superblock.Superblock.{Superblock}
 use Rattle.tables.specs.Laws.Counts.{count-few, few-count}
 use Rattle.tables.specs.Laws.IdTables.{ids-none}
 use Rattle.range.specs.Form.{BlockSize, okLength}
 use Rattle.range.specs.Memory.{total}
-use Rattle.ready.specs.declared.frozen.MaybeLocation.{MaybeLocation}
-use Rattle.ready.specs.declared.frozen.MaybeLocation.the-variants.{NoLocation, Received}
 use Rattle.ready.specs.declared.commit.Commit.{Commit}
 use Rattle.ready.specs.declared.commit.Commit.the-variants as commit
 use Rattle.ready.specs.declared.entries.Entries.{Entries}
 use Rattle.ready.specs.declared.ready.Ready.{Ready}
-use Rattle.ready.specs.State.{isReceived, withCommit}
+use Rattle.ready.specs.State.{withCommit}
 use Rattle.ready.specs.Inv.{MostWrites, readyOk}
 use Rattle.ready.specs.Laws.Facts.{IsNew, InFlight, ReadyFacts, ready-facts, facts-ready}
 use Rattle.source.specs.JournalCache as M
-use Rattle.source.specs.JournalCache.{SyncReqStatus, CommitStatus, CommitNone, CommitAdvanceLog, CommitAdvanceLocation, ReadyVariables, Some, InvReady, InvAdvanceLog, InvAdvanceLocation, InvNewSuperblock}
-use Rattle.source.specs.Limits.{Limits, ReadyCounts}
-use Rattle.source.specs.Meets.{ReplayShape, ReadyShape, MachineMeets}
-use Rattle.refine.specs.Machine.ReadyView.{ReadyLent, locationOf, writeOf, statusOf, newOf, frozenOf, memoryOf, replayOf, readyOf}
+use Rattle.source.specs.JournalCache.{SyncReqStatus, CommitAdvanceLog, CommitAdvanceLocation, ReadyVariables, InvReady, InvAdvanceLog, InvAdvanceLocation, InvNewSuperblock}
+use Rattle.source.specs.Limits.{Limits}
+use Rattle.source.specs.Meets.{MachineMeets}
+use Rattle.refine.specs.Machine.ReadyView.{ReadyLent, locationOf, statusOf, newOf, replayOf, readyOf}
 use Rattle.refine.specs.Machine.ReadyCases.{location-seen, received-seen, seen-received, commit-new, commit-status}
-use Rattle.refine.specs.Machine.ReadyForm.{PendingForm, ReplayForm, TableForm, ReadyForm, table-none, each-fit, fit-each, pending-few-is, pending-small-is, none-frozen, frozen-none, frozen-fits, memory-fits, fits-pending, length-replay, lengths-replay, replay-small-is}
+use Rattle.refine.specs.Machine.ReadyForm.{PendingForm, TableForm, ReadyForm, table-none, each-fit, fit-each, pending-few-is, pending-small-is, none-frozen, frozen-none, frozen-fits, memory-fits, fits-pending, length-replay, lengths-replay, replay-small-is}
 
 module _ (g : Geometry) (l : ReadyLent) (sync : Map SyncReqStatus) (r : Ready) (p : PendingForm l (r .entries)) where
   -- the view with a given commit in flight
@@ -120,22 +116,26 @@ module _ (g : Geometry) (l : ReadyLent) (sync : Map SyncReqStatus) (r : Ready) (
     inv-flight commit.CommitNone i = tt
     inv-flight (commit.CommitAdvanceLog id new) i =
         let k = i .if-advance-log refl in
-        let same : k .new ≡ new = Option·some-injective (k .new) new (sym (k .new-is)) in
-        (record {
-          new-loc = ap (λ (s : Superblock). s .indirectionTableLoc) (sym same) ∙ k .new-loc;
-          new-start = ap (λ (s : Superblock). s .journalStart) (sym same) ∙ k .new-start;
-          new-len = ap (λ (s : Superblock). s .journalLen) (sym same) ∙ k .new-len;
-        }, is-new (commit.CommitAdvanceLog id new) new (i .if-new new refl))
+        let same : k .new ≡ new = Option·some-injective (k .new) new (sym (k .new-is)) in (
+          record {
+            new-loc = ap (λ (s : Superblock). s .indirectionTableLoc) (sym same) ∙ k .new-loc;
+            new-start = ap (λ (s : Superblock). s .journalStart) (sym same) ∙ k .new-start;
+            new-len = ap (λ (s : Superblock). s .journalLen) (sym same) ∙ k .new-len;
+          },
+          is-new (commit.CommitAdvanceLog id new) new (i .if-new new refl),
+        )
     inv-flight (commit.CommitAdvanceLocation id new) i =
         let k = i .if-advance-location refl in
-        let same : k .new ≡ new = Option·some-injective (k .new) new (sym (k .new-is)) in
-        (record {
-          frozen = k .frozen;
-          received = seen-received (r .frozen .frozenLoc) (k .received);
-          new-start = ap (λ (s : Superblock). s .journalStart) (sym same) ∙ k .new-start;
-          new-len = ap (λ (s : Superblock). s .journalLen) (sym same) ∙ k .new-len;
-          new-end = subst (λ (s : Superblock). r .frozen .frozenJournalPosition + s .journalLen ≤ r .writtenJournalLen) same (k .new-end);
-        }, is-new (commit.CommitAdvanceLocation id new) new (i .if-new new refl))
+        let same : k .new ≡ new = Option·some-injective (k .new) new (sym (k .new-is)) in (
+          record {
+            frozen = k .frozen;
+            received = seen-received (r .frozen .frozenLoc) (k .received);
+            new-start = ap (λ (s : Superblock). s .journalStart) (sym same) ∙ k .new-start;
+            new-len = ap (λ (s : Superblock). s .journalLen) (sym same) ∙ k .new-len;
+            new-end = subst (λ (s : Superblock). r .frozen .frozenJournalPosition + s .journalLen ≤ r .writtenJournalLen) same (k .new-end);
+          },
+          is-new (commit.CommitAdvanceLocation id new) new (i .if-new new refl),
+        )
 
 -- what a look at lent memory finds: of pending entries, and of replay entries behind what is taken
 pub record PendingHeld (L : Limits) (l : ReadyLent) (e : Entries) : Type 0 where
