@@ -8,9 +8,9 @@ use mathlib.Core.Option.{Option, none, some}
 use native.Mathlib.Omega.{arith}
 use lib.ListN.{length, length-append}
 use Rattle.laws.specs.Choice.{also, false-true}
-use Rattle.laws.specs.Fold.{every, Each}
+use Rattle.laws.specs.Fold.{every, Each, every-append}
 use Rattle.laws.specs.Cut.{flat}
-use Rattle.interval.specs.Journal.{JournalBlock, fullRange}
+use Rattle.interval.specs.Journal.{JournalBlock, readable, fullRange}
 use Rattle.codec.specs.Codec.{JournalEntry, JournalRange, Codec, concatFold}
 
 -- a range is the entries that one journal write sends
@@ -71,6 +71,11 @@ module _ (C : Codec) where
   unfolding codes flat
   parse-codes [] h = C .parse-empty
   parse-codes (r ∷ rs) h = C .parse-append (C .encode r) (codes C rs) r (flat rs) (C .parse-encode r (h .0)) (parse-codes rs (h .1))
+
+-- two pieces are readable together where each is
+pub full-append : (a b : List (Option JournalBlock)) → fullRange (a ++ b) ≡ also (fullRange a) (fullRange b)
+unfolding fullRange
+full-append a b = every-append readable a b
 
 -- reading gives the blocks back, and no other blocks are the same piece
 pub full-whole : (s : List (Option JournalBlock)) → fullRange s ≡ true → whole (concatFold s) ≡ s

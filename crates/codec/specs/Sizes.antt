@@ -22,7 +22,11 @@ use Rattle.range.specs.Form.{BlockSize}
 use Rattle.codec.specs.Codec.{JournalRange, SizedBlocks, Sized, Disk-HasJournalRange, Disk-JournalRange}
 use Rattle.codec.specs.Ranges.{whole, full-whole}
 
--- how many blocks, how many bytes, and each block
+-- no block, how many blocks, how many bytes, and each block
+pub sized-none : SizedBlocks 0 []
+unfolding lengths
+sized-none = refl
+
 module _ (n : ℕ) (jr : JournalRange) (h : SizedBlocks n jr) where
   pub sized-count : length jr ≡ n
   sized-count = sym (length-lengths jr) ∙ ap length h ∙ length-replicate n BlockSize

@@ -3,15 +3,19 @@
 -- taken between. The two machines at Ready, with their replay entries, are equal exactly when the two ledgers are, and each machine shows
 -- its own ledger.
 use mathlib.Core.Bool.{Bool}
-use mathlib.Core.List.{List}
+use mathlib.Core.Path.{_≡_}
+use mathlib.Core.List.{List, map}
 use Rattle.layout.specs.declared.geometry.Geometry.{Geometry}
 use Rattle.layout.specs.declared.location.Location.{Location}
+use Rattle.codec.specs.Format.{format}
 use Rattle.source.specs.JournalCache as M
 use Rattle.source.specs.JournalSystem as Y
 use Rattle.source.specs.Limits.{limits}
 use Rattle.history.specs.Ledger.{Call, shown}
-use Rattle.codec.specs.Format.{format}
-use Rattle.history.specs.Whole.{Loaded, ledgerOf, Tells, whole-history}
+use Rattle.history.specs.Statement.{Loaded, ledgerOf, Tells, readyBy, slotBy, Store, LoadedStore}
+use Rattle.history.specs.Whole.History
+use Rattle.history.specs.Whole.History.{whole-history}
+use Rattle.history.specs.Whole.Stores.{stores-tell}
 
 pub demand-3 : (g : Geometry) (first : Y.Variables) (loc : Location) (i : Y.Init g first loc)
     (calls : List Call) (answers : List Bool) (loading : List Call) (loaded : List Bool) (r : M.ReadyVariables)
@@ -22,3 +26,22 @@ pub demand-3 : (g : Geometry) (first : Y.Variables) (loc : Location) (i : Y.Init
     (shown format (ledgerOf g format first loc i calls answers loading loaded))
     (shown format (ledgerOf g format first loc i calls′ answers′ loading′ loaded′))
 demand-3 g first loc i = whole-history g format limits first loc i
+
+-- every field of a loaded machine is told by its ledger; the slot, which the ledger has not, by the counter and the first disk's slot
+pub loaded-tells : (g : Geometry) (first : Y.Variables) (loc : Location) (i : Y.Init g first loc)
+    (calls : List Call) (answers : List Bool) (loading : List Call) (loaded : List Bool) (r : M.ReadyVariables)
+    → Loaded g format limits first calls answers loading loaded r
+    → let v = shown format (ledgerOf g format first loc i calls answers loading loaded) in
+    r ≡ readyBy v (slotBy g first loc i (v .counter))
+loaded-tells g first loc i = History.loaded-tells g format limits first loc i
+
+-- the same of any two stores, each with its own states and calls (two suppliers), whose first states are seen as one state that meets `Init`
+pub two-stores : (g : Geometry) (S S′ : Store g format limits) (first : Y.Variables) (loc : Location) (i : Y.Init g first loc)
+    (s : S .State) (calls : List (S .Made)) (answers : List Bool) (crashing : S .Made) (loading : List (S .Made)) (loaded : List Bool) (r : M.ReadyVariables)
+    (s′ : S′ .State) (calls′ : List (S′ .Made)) (answers′ : List Bool) (crashing′ : S′ .Made) (loading′ : List (S′ .Made)) (loaded′ : List Bool) (q : M.ReadyVariables)
+    → LoadedStore S first s calls answers crashing loading loaded r
+    → LoadedStore S′ first s′ calls′ answers′ crashing′ loading′ loaded′ q
+    → Tells r q
+    (shown format (ledgerOf g format first loc i (map (S .call) calls) answers (map (S .call) loading) loaded))
+    (shown format (ledgerOf g format first loc i (map (S′ .call) calls′) answers′ (map (S′ .call) loading′) loaded′))
+two-stores g = stores-tell g format limits

@@ -1,6 +1,7 @@
 pub mod Can
-pub mod Range
-pub mod Load
+pub mod Setting
+pub mod Walk
+pub mod Morning
 pub mod States
 pub mod Day
 pub mod Example

@@ -18,6 +18,7 @@ unfoldable pub use Rattle.codec.specs.Ranges.{blocks}
 use Rattle.source.specs.JournalDisk.{ReqId}
 
 -- the machine's steps in the order of the source's `Step`, ask again, landings, and crash. An answer to a read says whether it is whole.
+-- Nonsense is a call with an argument that there is not: a third slot, an entry longer than its bytes. It is never taken.
 pub data Call : Type 0 where
   writeJournal : (id1 : ReqId) (id2 : Option ReqId) → Call
   journalWritten : (id : ReqId) → Call
@@ -40,6 +41,7 @@ pub data Call : Type 0 where
   askAgain : (which : Bool) → Call
   land : (which : Bool) → Call
   crash : Call
+  nonsense : Call
 
 pub record Kept : Type 0 where
   pub counter : ℕ
@@ -159,6 +161,7 @@ tell g C noOp l = l
 tell g C (askAgain which) l = l
 tell g C (land which) l = landed g C (l .request) l
 tell g C crash l = fresh (l .kept)
+tell g C nonsense l = l
 
 -- an accepted call and a refused one
 abbrev pub heard : Geometry → Codec → Bool → Call → Ledger → Ledger

@@ -1,11 +1,10 @@
 pub mod Ledger
-pub mod Calls
+pub mod Statement
 pub mod Demand
+pub mod Calls
 pub mod Journal
 pub mod Simulation
-pub mod Reloaded
 pub mod Whole
-pub mod Code
 pub mod Loads
 pub mod Reach
 pub mod Example

@@ -1,3 +1,4 @@
+pub mod Comes
 pub mod Superblocks
 pub mod Journal
 pub mod Loads

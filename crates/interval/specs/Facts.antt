@@ -9,7 +9,7 @@ use Rattle.laws.specs.Choice.{also-left, also-right, also-both, either-left, ei
 use Rattle.layout.specs.declared.geometry.Geometry.{Geometry}
 use Rattle.layout.specs.Geometry.{ValidGeometry, geometry-asked}
 use Rattle.interval.specs.declared.interval.JournalInterval.{JournalInterval}
-use Rattle.interval.specs.Interval.{validJournalInterval, contiguousJournalInterval, inCyclicRange, askInterval, askIntervals, askContiguous, askInRow, askBlock}
+use Rattle.interval.specs.Interval.{validJournalInterval, contiguousJournalInterval, inCyclicRange, askInterval, askIntervals, askInRow, askBlock}
 
 pub record ValidJournalInterval (g : Geometry) (v : JournalInterval) : Type 0 where
   pub start-in : v .start < g .blocks
@@ -85,16 +85,6 @@ intervals-asked g a b e =
       geometry = v .geometry;
       first = v .valid;
       second = interval-facts g b (ask-yes 4 _ (omega arith) (andThen-right _ _ e));
-    }
-
-pub contiguous-asked : (g : Geometry) (a b : JournalInterval) → askContiguous g a b ≡ 0 → AskedBoth g a b
-unfolding askContiguous
-contiguous-asked g a b e =
-    let t = ask-yes 4 _ (omega arith) (andThen-right _ _ e) in
-    record {
-      geometry = geometry-asked g (andThen-left _ _ e);
-      first = contiguous-facts g a (also-left _ _ t) .valid;
-      second = contiguous-facts g b (also-right _ _ t) .valid;
     }
 
 pub in-row-asked : (g : Geometry) (a b : JournalInterval) → askInRow g a b ≡ 0 → AskedBoth g a b

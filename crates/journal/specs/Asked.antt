@@ -12,7 +12,7 @@ use Rattle.layout.specs.declared.geometry.Geometry.{Geometry}
 use Rattle.layout.specs.Geometry.{ValidGeometry, geometry-asked}
 use Rattle.interval.specs.declared.interval.JournalInterval.{JournalInterval}
 use Rattle.interval.specs.Facts.{ValidJournalInterval, interval-asked}
-use Rattle.journal.specs.Memory.{isMark, askBlocks, askMarks, askJournal, askSize, askSliceBytes, askSliceMarks, askFull, askUpdate}
+use Rattle.journal.specs.Memory.{isMark, askBlocks, askMarks, askJournal, askSize, askSliceBytes, askSliceMarks, askUpdate}
 
 pub record Blocks (g : Geometry) (blocks : List ℕ) : Type 0 where
   pub geometry : ValidGeometry g
@@ -70,14 +70,6 @@ slice-marks-asked g v marks out e =
       to = eqb-true (length out) (g .blocks) (ask-yes 1 _ (omega arith) (andThen-left _ _ r));
       valid = interval-asked g v (andThen-right _ _ r) .valid;
     }
-
-pub record Full (g : Geometry) (v : JournalInterval) (marks : List ℕ) : Type 0 where
-  pub from : Marks g marks
-  pub valid : ValidJournalInterval g v
-
-pub full-asked : (g : Geometry) (v : JournalInterval) (marks : List ℕ) → askFull g v marks ≡ 0 → Full g v marks
-unfolding askFull
-full-asked g v marks e = record { from = marks-asked g marks (andThen-left _ _ e); valid = interval-asked g v (andThen-right _ _ e) .valid }
 
 pub record Update (g : Geometry) (v : JournalInterval) (new blocks marks : List ℕ) : Type 0 where
   pub blocks-size : Blocks g blocks

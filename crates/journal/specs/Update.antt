@@ -1,7 +1,7 @@
 -- An update of lent memory is source 002's, for every N: the journal that the written bytes and marks show is the source's updated one.
 use Prim.Native.Nat.{ℕ, _+_, _*_, _≤_, _<_}
 use mathlib.Core.Bool.{cond}
-use mathlib.Core.Path.{_≡_, sym, _∙_, ap}
+use mathlib.Core.Path.{_≡_, sym, _∙_, ap, subst}
 use mathlib.Core.List.{List, []}
 use mathlib.Core.Option.{Option, none, some}
 use native.Mathlib.Omega.{arith}
@@ -15,11 +15,11 @@ use Rattle.laws.specs.Ring.{off, off-scaled}
 use Rattle.laws.specs.Around.{spliceAround, length-spliceAround, getD-spliceAround}
 use Rattle.layout.specs.declared.geometry.Geometry.{Geometry}
 use Rattle.interval.specs.declared.interval.JournalInterval.{JournalInterval}
-use Rattle.interval.specs.Journal.{JournalBlock}
+use Rattle.interval.specs.Journal.{JournalBlock, JournalUpdate}
 use Rattle.interval.specs.Laws.{splice-value-off}
-use Rattle.interval.specs.Update.{updated, updated-at, length-updated}
-use Rattle.journal.specs.Memory.{isOne, updateBytes, updateMarks}
-use Rattle.journal.specs.Asked.{Update}
+use Rattle.interval.specs.Update.{updated, updated-at, length-updated, updated-is}
+use Rattle.journal.specs.Memory.{isOne, updateBytes, updateMarks, askUpdate}
+use Rattle.journal.specs.Asked.{Update, update-asked}
 use Rattle.journal.specs.Laws.{update-bytes, update-marks}
 use Rattle.journal.specs.Cells.{blockAt, blocksIn, cellAt, cells, length-cells, cell-at, same-block}
 
@@ -107,3 +107,13 @@ module _ (g : Geometry) (v : JournalInterval) (new blocks marks : List ℕ) (u :
 
       lb : length (cells g blocks marks) ≡ g .blocks
       lb = length-cells (g .blocks) blocks marks
+
+  pub update-cells : JournalUpdate g (cells g blocks marks) (cells g (updateBytes blocks v new) (updateMarks marks v)) v (blocksIn (v .len) new)
+  update-cells =
+      subst (λ (j : List (Option JournalBlock)). JournalUpdate g (cells g blocks marks) j v (blocksIn (v .len) new)) (sym cells-update)
+      (updated-is g (cells g blocks marks) v (blocksIn (v .len) new) (length-cells (g .blocks) blocks marks) (u .valid) long)
+
+-- so an update that is accepted is one that the source allows
+pub update-done : (g : Geometry) (v : JournalInterval) (new blocks marks : List ℕ) → askUpdate g v new blocks marks ≡ 0
+    → JournalUpdate g (cells g blocks marks) (cells g (updateBytes blocks v new) (updateMarks marks v)) v (blocksIn (v .len) new)
+update-done g v new blocks marks e = update-cells g v new blocks marks (update-asked g v new blocks marks e)

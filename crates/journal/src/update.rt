@@ -9,7 +9,7 @@ ghost use mathlib.Core.Path.{_≡_};
 ghost use Rattle.laws.specs.Choice.{unless};
 ghost use Rattle.journal.specs.Memory.{updateBytes, updateMarks, askUpdate, copiedOf};
 
-// `new` from the interval's first block on, going round once at most. It asks nothing.
+// `new` from the interval's first block on, going round once at most; a start past the ring is its first block. It asks nothing.
 pub fn write_blocks(v: JournalInterval, new: &[u8], blocks: &mut [u8])
     ensures { λ _. ⌜ now (blocks .exit) ≡ updateBytes (now (blocks .entry)) v (now (new .entry)) ⌝ }
 {

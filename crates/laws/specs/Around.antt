@@ -192,6 +192,18 @@ module _ {ℓ} {A : Type ℓ} where
               ap (off (length d) next) (sym (wrap-off (length d) at i h l))
               ∙ off-shift (length d) at (length s) (off (length d) at i) h (omega (arith, k)) (off-in (length d) at i h l)
 
+  -- a run after a run, as a writer has it: cut where the memory ends, which it does not reach
+  pub around-run : (d x y s t : List A) (at p : ℕ) → at < length d → length s + length t ≤ length d → x ≡ spliceAround d at s → p ≡ wrap (length d) (at + length s)
+      → y ≡ spliceAround x p (take (length x) t) → y ≡ spliceAround d at (s ++ t)
+  around-run d x y s t at p h k e q f =
+      f
+      ∙ ap (spliceAround x p) (take-all (length x) t (omega (arith, k, long)))
+      ∙ (λ i. spliceAround (e i) (q i) t)
+      ∙ spliceAround-then d at s t h k
+    where
+      long : length x ≡ length d
+      long = ap length e ∙ length-spliceAround d at s (omega (arith, h)) (omega (arith, k))
+
   -- as many elements as the ring has, written by two writes that are cut at the end: from `at` on, and the rest from the front on
   pub around-two : (d x y : List A) (at : ℕ) (s : List A) (first end : ℕ) → first ≡ min (length d - at) (length s) → end ≡ min (length d) (length s)
       → x ≡ clipped d at s → y ≡ clipped x 0 (take (end - first) (drop first s)) → y ≡ spliceAround d at (take (length d) s)

@@ -2,7 +2,7 @@
 -- tests and the first no among questions, with the laws that take them apart and put them together, and the case of each test on
 -- numbers. Assumes nothing.
 use Prim.Native.Nat.{ℕ, suc, _+_, _-_, _≤_, _<_}
-use mathlib.Core.Bool.{Bool, true, false, cond}
+use mathlib.Core.Bool.{Bool, true, false, cond, _&&_}
 use mathlib.Core.Path.{_≡_, refl, sym, _∙_, ap}
 use mathlib.Core.Logic.{_⊎_, inl, inr}
 use mathlib.Core.Option.{none, some}
@@ -44,6 +44,12 @@ false-true e = ruin (ap (λ (b : Bool). cond b 1 0) e)
 
 pub true-false {ℓ} : {G : Type ℓ} → true ≡ false → G
 true-false e = false-true (sym e)
+
+-- the code's `&` of two tests
+pub and-also : (a b : Bool) → a && b ≡ also a b
+unfolding also
+and-also true b = refl
+and-also false b = refl
 
 -- a conjunction, taken apart and put together
 pub also-left : (a b : Bool) → also a b ≡ true → a ≡ true
@@ -133,6 +139,19 @@ pub andThen-both : (q r : ℕ) → q ≡ 0 → r ≡ 0 → andThen q r ≡ 0
 unfolding andThen
 andThen-both q r hq hr = simp (eq-eqb q 0 hq) hr
 
+-- a yes leaves the answer to the next question, and a last yes changes nothing
+pub andThen-done : (q r : ℕ) → q ≡ 0 → andThen q r ≡ r
+unfolding andThen
+andThen-done q r h = simp (eq-eqb q 0 h)
+
+pub andThen-end : (q : ℕ) → andThen q 0 ≡ q
+unfolding andThen
+andThen-end q = go (eqb q 0) refl
+  where
+    go : (b : Bool) → eqb q 0 ≡ b → cond b 0 q ≡ q
+    go true e = sym (eqb-true q 0 e)
+    go false e = refl
+
 -- the first no is the answer
 pub andThen-first : (q r : ℕ) → (q ≡ 0 → ⊥) → andThen q r ≡ q
 unfolding andThen
@@ -197,6 +216,10 @@ unless-kept q old new h = asked-no q new old h
 pub unless-done {ℓ} : {A : Type ℓ} (q : ℕ) (old new : A) → q ≡ 0 → unless q old new ≡ new
 unfolding unless
 unless-done q old new h = asked-yes q new old h
+
+pub unless-same {ℓ} : {A : Type ℓ} (q : ℕ) (x : A) → x ≡ unless q x x
+unfolding unless
+unless-same {A = A} q x = by-eqb (λ (y : A). x ≡ y) q 0 x x (λ h. refl) (λ h. refl)
 
 -- the same for a step that has the refusal in a number of its own
 pub refused-kept {ℓ} : {A : Type ℓ} (r q : ℕ) (old new : A) → r ≡ q → (r ≡ 0 → ⊥) → old ≡ unless q old new

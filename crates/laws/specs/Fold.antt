@@ -7,7 +7,7 @@ use mathlib.Core.List.{List, [], _∷_, _++_}
 use native.Mathlib.Nat.{add-zero, zero-add, add-assoc, add-comm, mul-suc, zero-mul, suc-mul}
 use native.Mathlib.Omega.{arith}
 use lib.Dec.{eqb}
-use borrow.Author.Tests.{eq-eqb, ne-eqb, eqb-true}
+use borrow.Author.Tests.{eq-eqb, eqb-true}
 use lib.ListN.{length, take, drop, getD, replicate, take-append-drop}
 use Rattle.laws.specs.Choice.{also, also-left, also-right, also-both, also-assoc, also-true, false-true, not-so}
 use Rattle.laws.specs.Part.{drop-step, take-step, drop-end}
@@ -172,7 +172,7 @@ same-self (x ∷ xs) = also-both (eqb x x) (same xs xs) (eq-eqb x x refl) (same-
 pub is-same : (xs ys : List ℕ) → xs ≡ ys → same xs ys ≡ true
 is-same xs ys e = ap (same xs) (sym e) ∙ same-self xs
 
--- lists of two lengths; a turn of the loop where the elements differ and where they don't; its end
+-- lists of two lengths; what is left of two lists, an element further
 pub same-short : (xs ys : List ℕ) → (length xs ≡ length ys → ⊥) → false ≡ same xs ys
 same-short xs ys h = sym (not-so (same xs ys) (λ e. h (ap length (same-is xs ys e))))
 
@@ -181,19 +181,7 @@ module _ (xs ys : List ℕ) (i : ℕ) (h : i < length xs) (k : i < length ys) wh
   unfolding same
   same-step = rw (drop-step xs i 0 h, drop-step ys i 0 k)
 
-  pub same-no : same (drop i xs) (drop i ys) ≡ same xs ys → (getD xs i 0 ≡ getD ys i 0 → ⊥) → false ≡ same xs ys
-  unfolding also
-  same-no e q = (λ j. also (sym (ne-eqb (getD xs i 0) (getD ys i 0) q) j) (same (drop (i + 1) xs) (drop (i + 1) ys))) ∙ sym same-step ∙ e
-
-  pub same-yes : same (drop i xs) (drop i ys) ≡ same xs ys → getD xs i 0 ≡ getD ys i 0 → same (drop (i + 1) xs) (drop (i + 1) ys) ≡ same xs ys
-  unfolding also
-  same-yes e q = (λ j. also (sym (eq-eqb (getD xs i 0) (getD ys i 0) q) j) (same (drop (i + 1) xs) (drop (i + 1) ys))) ∙ sym same-step ∙ e
-
-pub same-done : (xs ys : List ℕ) (i : ℕ) → length xs ≤ i → length ys ≤ i → same (drop i xs) (drop i ys) ≡ same xs ys → true ≡ same xs ys
-unfolding same
-same-done xs ys i h k e = (λ j. same (sym (drop-end xs i h) j) (sym (drop-end ys i k) j)) ∙ e
-
--- the same loop without a way out
+-- a loop without a way out, with a flag of what was seen: a turn, and the end
 module _ (xs ys : List ℕ) (i : ℕ) where
   pub same-turn : (a b : Bool) → i < length xs → i < length ys → also a (same (drop i xs) (drop i ys)) ≡ same xs ys → b ≡ also a (eqb (getD xs i 0) (getD ys i 0))
       → also b (same (drop (i + 1) xs) (drop (i + 1) ys)) ≡ same xs ys

@@ -3,6 +3,7 @@ pub mod Part
 pub mod Splice
 pub mod Fold
 pub mod Cut
+pub mod Digits
 pub mod Ring
 pub mod Around
 pub mod Sets

@@ -9,21 +9,23 @@ use native.Mathlib.Omega.{arith}
 use lib.Dec.{eqb}
 use lib.ListN.{length}
 use borrow.Author.Tests.{eqb-true}
-use Rattle.laws.specs.Choice.{also-left, also-right, also-both, ruin, true-false, split-eq}
+use Rattle.laws.specs.Choice.{ruin, true-false, split-eq, also-left, also-right, also-both}
+use Rattle.laws.specs.Sets.{Ids, no-ids, join, leave, Map, no-keys, bind, unbind, isKey, keys, AtMost, idsOf, none-some, join-there, leave-here, leave-there, bind-there, unbind-here, unbind-there, each, mapOf, Distinct, bind-here, out-head, out-tail, out-right, distinct-last}
 use Rattle.laws.specs.Fold.{every}
-use Rattle.laws.specs.Sets.{Ids, no-ids, join, leave, Map, no-keys, bind, unbind, each, isKey, keys, AtMost, idsOf, mapOf, Distinct, none-some, bind-here, bind-there, unbind-here, unbind-there, out-head, out-tail, out-right, distinct-last}
 
--- one id, and one id put in and taken out again
+-- one id, and a new id put in and taken out again
 pub one-few : (n k : ℕ) → 1 ≤ n → AtMost n (join no-ids k)
 unfolding idsOf
 one-few n k h = record { listed = k ∷ []; few = h; all = λ i e. e }
 
-pub join-leave : (k : ℕ) → leave (join no-ids k) k ≡ no-ids
-join-leave k = λ i x. go (eqb k x) i
+pub leave-join : (s : Ids) (k : ℕ) → s k ≡ false → leave (join s k) k ≡ s
+leave-join s k e = λ z x. go x z
   where
-    go : (b : Bool) → cond b false (cond b true false) ≡ false
-    go true = refl
-    go false = refl
+    go : (x : ℕ) → leave (join s k) k x ≡ s x
+    go x = split-eq k x (λ n. ap (leave (join s k) k) (sym n) ∙ leave-here (join s k) k ∙ sym e ∙ ap s n) (λ n. leave-there (join s k) k x n ∙ join-there s k x n)
+
+pub join-leave : (k : ℕ) → leave (join no-ids k) k ≡ no-ids
+join-leave k = leave-join no-ids k refl
 
 -- every value of a map has the property
 abbrev pub Values : {A : Type 0} → (A → Type 0) → Map A → Type 0

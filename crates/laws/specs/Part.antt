@@ -51,6 +51,10 @@ module _ {ℓ} {A : Type ℓ} where
       (λ h. rw (min-eq-left h))
       (λ h. rw (min-eq-right (le-of-lt h)) (take-all r xs (omega arith) ∙ sym (take-all n xs (omega arith))))
 
+  -- a front whose end is cut at the list's
+  pub front-cut : (xs : List A) (n k : ℕ) → k ≡ min n (length xs) → take (k - 0) xs ≡ take n xs
+  front-cut xs n k h = ap (λ (m : ℕ). take m xs) (sub-zero k ∙ h) ∙ take-min xs n (length xs) refl
+
   -- a front of a front is the shorter one
   pub take-front : (m n : ℕ) (xs : List A) → take m (take n xs) ≡ take (min m n) xs
   take-front m n xs =
@@ -72,6 +76,11 @@ module _ {ℓ} {A : Type ℓ} where
       ap (λ (n : ℕ). take n (drop start xs)) (ek ∙ ez)
       ∙ ap (take (min count (length xs - start))) (ap (λ (n : ℕ). drop n xs) es ∙ drop-min xs from (length xs) refl)
       ∙ take-min (drop from xs) count (length xs - start) (simp length-drop (omega arith))
+
+  -- the same by its end
+  pub part-ends : (xs : List A) (at n start end : ℕ) → start ≡ min at (length xs) → end ≡ start + min n (length xs - at)
+      → take (end - start) (drop start xs) ≡ take n (drop at xs)
+  part-ends xs at n start end hs he = part-cut xs at n start (end - start) (end - start) hs (omega arith) refl
 
   -- dropping from what was taken is taking from what was dropped
   pub drop-take : (a k : ℕ) (xs : List A) → drop a (take (a + k) xs) ≡ take k (drop a xs)

@@ -2,7 +2,7 @@
 -- Bool reads and writes: false is the first (`which` 0), true the second (`which` 1), and "0 or 1" is met by the type. Assumes nothing.
 use Prim.Native.Nat.{ℕ, suc, _≤_, _<_}
 use mathlib.Core.Bool.{Bool, true, false, cond, not}
-use mathlib.Core.Path.{_≡_, refl, sym, _∙_, ap, subst}
+use mathlib.Core.Path.{_≡_, refl, sym, _∙_, ap}
 use mathlib.Core.List.{List, [], _∷_, _++_}
 use mathlib.Core.Option.{Option, none, some, Option·map, Option·some-injective, Option·none-ne-some}
 use native.Mathlib.Omega.{arith}
@@ -202,22 +202,22 @@ distinct-within (x ∷ xs) ks d f =
 pub distinct-few : (n : ℕ) (xs : List ℕ) → Distinct xs → AtMost n (idsOf xs) → length xs ≤ n
 distinct-few n xs d m = let h = distinct-within xs (m .listed) d (m .all) in let l = m .few in omega arith
 
-pub none-few : (n : ℕ) → AtMost n no-ids
-none-few n = record { listed = []; few = omega arith; all = λ i e. false-true e }
-
-pub listed-few : (n : ℕ) (xs : List ℕ) → length xs ≤ n → AtMost n (idsOf xs)
-listed-few n xs h = record { listed = xs; few = h; all = λ i e. e }
-
--- so a set of distinct ids has at most n where the list of them is at most n long
+-- the ids of a set, each once: it has at most n where they are at most n
 pub record Listed (s : Ids) (ids : List ℕ) : Type 0 where
   pub distinct : Distinct ids
   pub are : s ≡ idsOf ids
 
 pub few-listed : (n : ℕ) (s : Ids) (ids : List ℕ) → Listed s ids → AtMost n s → length ids ≤ n
-few-listed n s ids l m = distinct-few n ids (l .distinct) (subst (AtMost n) (l .are) m)
+few-listed n s ids l m = distinct-few n ids (l .distinct) (record { listed = m .listed; few = m .few; all = λ i e. m .all i (ap (λ (t : Ids). t i) (l .are) ∙ e) })
 
 pub listed-at-most : (n : ℕ) (s : Ids) (ids : List ℕ) → Listed s ids → length ids ≤ n → AtMost n s
-listed-at-most n s ids l h = subst (AtMost n) (sym (l .are)) (listed-few n ids h)
+listed-at-most n s ids l h = record { listed = ids; few = h; all = λ i e. sym (ap (λ (t : Ids). t i) (l .are)) ∙ e }
+
+pub none-few : (n : ℕ) → AtMost n no-ids
+none-few n = record { listed = []; few = omega arith; all = λ i e. false-true e }
+
+pub listed-few : (n : ℕ) (xs : List ℕ) → length xs ≤ n → AtMost n (idsOf xs)
+listed-few n xs h = record { listed = xs; few = h; all = λ i e. e }
 
 -- neither of two tests holds
 neither : (a b : Bool) → a ≡ false → b ≡ false → cond a true b ≡ false

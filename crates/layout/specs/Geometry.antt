@@ -8,6 +8,13 @@ use borrow.Author.Tests.{leb-true, le-leb}
 use Rattle.laws.specs.Choice.{also, ask, also-left, also-right, also-both, ask-yes, ask-holds}
 use Rattle.layout.specs.declared.geometry.Geometry.{Geometry}
 
+-- a block's bytes, and the most blocks of a journal
+abbrev pub BlockSize : ℕ
+BlockSize = 4096
+
+abbrev pub MostBlocks : ℕ
+MostBlocks = 4096
+
 -- N and T
 abbrev pub NumJournalBlocks : Geometry → ℕ
 NumJournalBlocks g = g .blocks
@@ -17,20 +24,20 @@ IndirectionTableMaxLength g = g .table
 
 -- the addresses
 abbrev pub IndirectionTable1Addr : Geometry → ℕ
-IndirectionTable1Addr g = 2 * 4096 + NumJournalBlocks g * 4096
+IndirectionTable1Addr g = 2 * BlockSize + NumJournalBlocks g * BlockSize
 
 abbrev pub IndirectionTable2Addr : Geometry → ℕ
 IndirectionTable2Addr g = IndirectionTable1Addr g + IndirectionTableMaxLength g
 
 abbrev pub JournalStartAddr : ℕ
-JournalStartAddr = 2 * 4096
+JournalStartAddr = 2 * BlockSize
 
 abbrev pub JournalEndAddr : Geometry → ℕ
-JournalEndAddr g = JournalStartAddr + NumJournalBlocks g * 4096
+JournalEndAddr g = JournalStartAddr + NumJournalBlocks g * BlockSize
 
 -- for a point up to N
 abbrev pub JournalPoint : Geometry → ℕ → ℕ
-JournalPoint g point = JournalStartAddr + point * 4096
+JournalPoint g point = JournalStartAddr + point * BlockSize
 
 -- the other of the two table addresses
 unfoldable pub otherIndirectionTableAddr : Geometry → ℕ → ℕ
@@ -40,7 +47,7 @@ otherIndirectionTableAddr g addr = cond (eqb addr (IndirectionTable1Addr g)) (In
 unfoldable pub geometryOk : Geometry → Bool
 geometryOk g =
     also (leb 1 (NumJournalBlocks g))
-    (also (leb (NumJournalBlocks g) 4096)
+    (also (leb (NumJournalBlocks g) MostBlocks)
     (also (leb 1 (IndirectionTableMaxLength g))
     (leb (IndirectionTableMaxLength g) 16777216)))
 
@@ -49,7 +56,7 @@ askGeometry g = ask 1 (geometryOk g)
 
 pub record ValidGeometry (g : Geometry) : Type 0 where
   pub some-block : 1 ≤ g .blocks
-  pub most-blocks : g .blocks ≤ 4096
+  pub most-blocks : g .blocks ≤ MostBlocks
   pub some-table : 1 ≤ g .table
   pub most-table : g .table ≤ 16777216
 
@@ -60,7 +67,7 @@ geometry-facts g e =
     let e2 = also-right _ _ e1 in
     record {
       some-block = leb-true 1 (g .blocks) (also-left _ _ e);
-      most-blocks = leb-true (g .blocks) 4096 (also-left _ _ e1);
+      most-blocks = leb-true (g .blocks) MostBlocks (also-left _ _ e1);
       some-table = leb-true 1 (g .table) (also-left _ _ e2);
       most-table = leb-true (g .table) 16777216 (also-right _ _ e2);
     }
@@ -69,7 +76,7 @@ pub facts-geometry : (g : Geometry) → ValidGeometry g → geometryOk g ≡ tru
 unfolding geometryOk
 facts-geometry g v =
     also-both _ _ (le-leb 1 (g .blocks) (v .some-block))
-    (also-both _ _ (le-leb (g .blocks) 4096 (v .most-blocks))
+    (also-both _ _ (le-leb (g .blocks) MostBlocks (v .most-blocks))
     (also-both _ _ (le-leb 1 (g .table) (v .some-table)) (le-leb (g .table) 16777216 (v .most-table))))
 
 -- question 1 was answered yes exactly for a valid geometry

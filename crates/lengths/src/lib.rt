@@ -1,42 +1,9 @@
-// Walks over the lengths of entries. The public face:
-//   total              their sum
-//   every_length_ok    does each lie from 1 to a greatest one?
-// Both are total and look at whole slices: a caller passes the part that it counts.
-use runs::lesser;
-ghost use mathlib.Core.Path.{_≡_};
-ghost use Rattle.laws.specs.Fold.{every};
-ghost use Rattle.range.specs.Form.{okLength};
-ghost use Rattle.lengths.specs.Total.{clippedTotal};
+// The lengths of entries in lent memory. The public face:
+//   Held           the bytes of entries, or that they aren't held
+//   entries_held   are the entries from one place up to another there, each of an allowed length, and do their bytes fit?
+// It is the one test of entries in memory, it asks once, and it answers the sum that it made.
+mod held;
+mod walk;
 
-// 65,535 times this is below 2 to the 64th.
-const MOST_COUNTED: usize = 281474976710656;
-
-// The sum of the lengths: of all of them up to 2 to the 48th, more than any lent memory has.
-pub fn total(lens: &[u16]) -> u64
-    ensures { λ r. ⌜ r ≡ clippedTotal (now (lens .entry)) ⌝ }
-{
-    let n = lesser(MOST_COUNTED, lens.len());
-    let mut sum: u64 = 0;
-    let mut i = 0;
-    while i < n {
-        sum += lens[i] as u64;
-        i += 1;
-    }
-    sum
-}
-
-pub fn every_length_ok(lens: &[u16], most: u16) -> bool
-    ensures { λ r. ⌜ r ≡ every (okLength most) (now (lens .entry)) ⌝ }
-{
-    let mut i = 0;
-    while i < lens.len() {
-        if lens[i] < 1 {
-            return false;
-        }
-        if most < lens[i] {
-            return false;
-        }
-        i += 1;
-    }
-    true
-}
+pub use held::Held;
+pub use held::entries_held;

@@ -1,6 +1,6 @@
 pub mod Limits
 pub mod Answer
-pub mod Entries
+pub mod Given
 pub mod Pending
 pub mod Replay
 pub mod PendingLaws

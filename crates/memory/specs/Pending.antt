@@ -5,18 +5,27 @@ use lib.Dec.{leb}
 use Rattle.laws.specs.Choice.{ask, andThen, unless}
 use Rattle.laws.specs.Splice.{splice}
 use Rattle.range.specs.Memory.{total}
+use Rattle.lengths.specs.Entries.{entriesOk}
 use Rattle.memory.specs.declared.limits.Limits.{Limits}
 use Rattle.memory.specs.declared.count.Count.{Count}
 use Rattle.memory.specs.declared.count.Counted.{Counted}
 use Rattle.memory.specs.Limits.{askPendingLent, askRoom}
 use Rattle.memory.specs.Answer.{counted}
-use Rattle.memory.specs.Entries.{Memory, bytesOf, entriesOk, askGiven}
+use Rattle.memory.specs.Given.{Memory, bytesOf, askGiven}
 
--- questions 1 and 2 of pending memory
+-- questions 1 and 2 of pending memory: the lent lengths are the limits, so entries whose lengths are there are few enough
 unfoldable pub askPending : Limits → Memory → ℕ
 askPending l m =
     andThen (askPendingLent l (length (m .bytes)) (length (m .lens)))
-    (ask 2 (entriesOk (l .entries) (l .bytes) (m .lens) (m .count)))
+    (ask 2 (entriesOk (l .bytes) (m .lens) 0 (m .count)))
+
+-- and of its frozen entries, the first ones
+unfoldable pub askFrozen : Limits → Memory → ℕ → ℕ
+askFrozen l m frozen = andThen (askPending l m) (ask 2 (leb frozen (m .count)))
+
+-- the first k entries
+abbrev pub firstOf : Memory → ℕ → Count
+firstOf m k = record { entries = k; bytes = total (m .lens) k }
 
 -- entries e come behind those of m
 abbrev pub both : Memory → Memory → Count

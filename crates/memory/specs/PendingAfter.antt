@@ -14,53 +14,48 @@ use Rattle.laws.specs.Fold.{sum, every, every-append, every-drop}
 use Rattle.range.specs.Form.{MostEntryLength, okLength}
 use Rattle.range.specs.Memory.{total, total-write, total-split, view-add, view-moved}
 use Rattle.memory.specs.declared.limits.Limits.{Limits}
-use Rattle.memory.specs.Entries.{Memory, bytesOf, entriesOf}
-use Rattle.memory.specs.Pending.{askPending, askAppend, appended, askTakeFront, frontTaken}
-use Rattle.memory.specs.PendingLaws.{asked-pending, append-asked, front-pending, front-few}
+use Rattle.memory.specs.Given.{Memory, bytesOf, entriesOf}
+use Rattle.memory.specs.Pending.{askPending, appended, frontTaken}
+use Rattle.memory.specs.PendingLaws.{Pending, asked-pending, Appends}
 
 -- after an append
-module _ (l : Limits) (m e : Memory) (q : askAppend l m e ≡ 0) where
+module _ (l : Limits) (m e : Memory) (a : Appends l m e) where
   room : bytesOf m + length (take (bytesOf e) (e .bytes)) ≤ length (m .bytes)
   room =
-      let a = append-asked l m e q in
-      omega (arith, a .bytes-fit, a .pending .lent .bytes-lent, length-take-le (bytesOf e) (e .bytes) (a .given .fit))
+      omega (arith, a .bytes-fit, a .pending .lent .bytes-lent, length-take-le (bytesOf e) (e .bytes) (a .given .held .fit))
 
   places : m .count + length (take (e .count) (e .lens)) ≤ length (m .lens)
   places =
-      let a = append-asked l m e q in
-      omega (arith, a .entries-fit, a .pending .lent .lens-lent, length-take-le (e .count) (e .lens) (a .given .there))
+      omega (arith, a .entries-fit, a .pending .lent .lens-lent, length-take-le (e .count) (e .lens) (a .given .held .there))
 
   many : m .count + e .count ≡ m .count + length (take (e .count) (e .lens))
-  many = ap (λ (n : ℕ). m .count + n) (sym (length-take-le (e .count) (e .lens) (append-asked l m e q .given .there)))
+  many = ap (λ (n : ℕ). m .count + n) (sym (length-take-le (e .count) (e .lens) (a .given .held .there)))
 
   -- the old entries, then the new ones
   pub appended-entries : entriesOf (appended m e) ≡ entriesOf m ++ entriesOf e
   appended-entries =
-      let a = append-asked l m e q in
       view-add (m .bytes) (m .lens) (e .bytes) (e .lens) (m .count) (e .count) (bytesOf m) (bytesOf e) (m .count + e .count)
-      (a .pending .held .there) (a .given .there) refl refl (omega (arith, a .pending .held .fit, a .pending .lent .bytes-lent)) (a .given .fit) refl
+      (a .pending .held .there) (a .given .held .there) refl refl (omega (arith, a .pending .held .fit, a .pending .lent .bytes-lent)) (a .given .held .fit) refl
 
   pub appended-bytes : bytesOf (appended m e) ≡ bytesOf m + bytesOf e
   appended-bytes =
       ap (total (splice (m .lens) (m .count) (take (e .count) (e .lens)))) many
-      ∙ total-write (m .lens) (take (e .count) (e .lens)) (m .count) (append-asked l m e q .pending .held .there)
+      ∙ total-write (m .lens) (take (e .count) (e .lens)) (m .count) (a .pending .held .there)
 
   appended-lens : take (m .count + e .count) (appended m e .lens) ≡ take (m .count) (m .lens) ++ take (e .count) (e .lens)
   appended-lens =
       ap (λ (n : ℕ). take n (splice (m .lens) (m .count) (take (e .count) (e .lens)))) many
-      ∙ take-splice-through (m .lens) (m .count) (take (e .count) (e .lens)) (append-asked l m e q .pending .held .there)
+      ∙ take-splice-through (m .lens) (m .count) (take (e .count) (e .lens)) (a .pending .held .there)
 
   appended-each : every (okLength MostEntryLength) (take (m .count + e .count) (appended m e .lens)) ≡ true
   appended-each =
-      let a = append-asked l m e q in
       ap (every (okLength MostEntryLength)) appended-lens
       ∙ every-append (okLength MostEntryLength) (take (m .count) (m .lens)) (take (e .count) (e .lens))
-      ∙ also-both _ _ (a .pending .held .each) (a .given .each)
+      ∙ also-both _ _ (a .pending .held .each) (a .given .held .each)
 
   -- questions 1 and 2 again
-  pub appended-asked : askPending l (appended m e) ≡ 0
-  appended-asked =
-      let a = append-asked l m e q in
+  pub appended-again : askPending l (appended m e) ≡ 0
+  appended-again =
       let bytes = length-splice (m .bytes) (bytesOf m) (take (bytesOf e) (e .bytes)) room in
       let lens = length-splice (m .lens) (m .count) (take (e .count) (e .lens)) places in
       asked-pending l (appended m e)
@@ -74,7 +69,7 @@ module _ (l : Limits) (m e : Memory) (q : askAppend l m e ≡ 0) where
             };
         held =
             record {
-              few = a .entries-fit;
+              order = omega arith;
               there = omega (arith, lens, a .pending .lent .lens-lent, a .entries-fit);
               each = appended-each;
               fit = omega (arith, appended-bytes, a .bytes-fit);
@@ -85,7 +80,7 @@ module _ (l : Limits) (m e : Memory) (q : askAppend l m e ≡ 0) where
   pub appended-bytes-behind : drop (bytesOf (appended m e)) (appended m e .bytes) ≡ drop (bytesOf (appended m e)) (m .bytes)
   appended-bytes-behind =
       let n : bytesOf (appended m e) ≡ bytesOf m + length (take (bytesOf e) (e .bytes)) =
-      appended-bytes ∙ ap (λ (k : ℕ). bytesOf m + k) (sym (length-take-le (bytesOf e) (e .bytes) (append-asked l m e q .given .fit))) in
+      appended-bytes ∙ ap (λ (k : ℕ). bytesOf m + k) (sym (length-take-le (bytesOf e) (e .bytes) (a .given .held .fit))) in
       ap (λ (k : ℕ). drop k (appended m e .bytes)) n
       ∙ drop-splice (m .bytes) (bytesOf m) (take (bytesOf e) (e .bytes)) (omega (arith, room))
       ∙ ap (λ (k : ℕ). drop k (m .bytes)) (sym n)
@@ -97,27 +92,27 @@ module _ (l : Limits) (m e : Memory) (q : askAppend l m e ≡ 0) where
       ∙ ap (λ (k : ℕ). drop k (m .lens)) (sym many)
 
 -- after the first k entries left
-module _ (l : Limits) (m : Memory) (k : ℕ) (q : askTakeFront l m k ≡ 0) where
+module _ (l : Limits) (m : Memory) (k : ℕ) (p : Pending l m) (few : k ≤ m .count) where
   whole : k + (m .count - k) ≡ m .count
-  whole = let h = front-few l m k q in omega arith
+  whole = omega arith
 
   split : total (m .lens) k + total (drop k (m .lens)) (m .count - k) ≡ bytesOf m
   split = total-split (m .lens) (m .count) k (m .count - k) whole
 
   held : bytesOf m ≤ length (m .bytes)
-  held = let p = front-pending l m k q in omega (arith, p .held .fit, p .lent .bytes-lent)
+  held = omega (arith, p .held .fit, p .lent .bytes-lent)
 
   bytes-long : length (take (bytesOf m - total (m .lens) k) (drop (total (m .lens) k) (m .bytes))) ≡ bytesOf m - total (m .lens) k
   bytes-long = length-part (m .bytes) (total (m .lens) k) (bytesOf m - total (m .lens) k) (omega (arith, held, split))
 
   lens-long : length (take (m .count - k) (drop k (m .lens))) ≡ m .count - k
-  lens-long = length-part (m .lens) k (m .count - k) (omega (arith, whole, front-pending l m k q .held .there))
+  lens-long = length-part (m .lens) k (m .count - k) (omega (arith, whole, p .held .there))
 
   -- the other entries
   pub front-entries : entriesOf (frontTaken m k) ≡ drop k (entriesOf m)
   front-entries =
       view-moved (m .bytes) (m .lens) (m .count) k (m .count - k) (total (m .lens) k) (bytesOf m - total (m .lens) k)
-      (front-pending l m k q .held .there) held whole refl (omega (arith, split))
+      (p .held .there) held whole refl (omega (arith, split))
 
   front-taken-lens : take (m .count - k) (frontTaken m k .lens) ≡ take (m .count - k) (drop k (m .lens))
   front-taken-lens =
@@ -131,12 +126,11 @@ module _ (l : Limits) (m : Memory) (k : ℕ) (q : askTakeFront l m k ≡ 0) wher
   front-each : every (okLength MostEntryLength) (take (m .count - k) (frontTaken m k .lens)) ≡ true
   front-each =
       ap (every (okLength MostEntryLength)) (front-taken-lens ∙ sym (drop-take k (m .count - k) (m .lens)) ∙ ap (λ (n : ℕ). drop k (take n (m .lens))) whole)
-      ∙ every-drop (okLength MostEntryLength) k (take (m .count) (m .lens)) (front-pending l m k q .held .each)
+      ∙ every-drop (okLength MostEntryLength) k (take (m .count) (m .lens)) (p .held .each)
 
   -- questions 1 and 2 again
-  pub front-asked : askPending l (frontTaken m k) ≡ 0
-  front-asked =
-      let p = front-pending l m k q in
+  pub front-again : askPending l (frontTaken m k) ≡ 0
+  front-again =
       let bytes = length-splice (m .bytes) 0 (take (bytesOf m - total (m .lens) k) (drop (total (m .lens) k) (m .bytes))) (omega (arith, bytes-long, held)) in
       let lens = length-splice (m .lens) 0 (take (m .count - k) (drop k (m .lens))) (omega (arith, lens-long, p .held .there)) in
       asked-pending l (frontTaken m k)
@@ -150,7 +144,7 @@ module _ (l : Limits) (m : Memory) (k : ℕ) (q : askTakeFront l m k ≡ 0) wher
             };
         held =
             record {
-              few = omega (arith, p .held .few);
+              order = omega arith;
               there = omega (arith, lens, p .held .there);
               each = front-each;
               fit = omega (arith, front-taken-bytes, p .held .fit);

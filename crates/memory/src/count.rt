@@ -1,6 +1,6 @@
-// Entries counted, and the answer of the steps that count them.
+// Entries counted, and the answers of what counts them.
 ghost use mathlib.Core.Path.{_≡_};
-ghost use Rattle.memory.specs.Answer.{refusal};
+ghost use Rattle.memory.specs.Answer.{refusal, pendingRefusal};
 
 // A number of entries and of their bytes.
 pub struct Count {
@@ -8,7 +8,7 @@ pub struct Count {
     pub bytes: u64,
 }
 
-// The count after a step, or the number of the question that was answered no.
+// A count, or the number of the question that was answered no.
 pub enum Counted {
     Now(Count),
     Refused(u8),
@@ -22,6 +22,24 @@ impl Counted {
         match self {
             Counted::Now(_) => 0,
             Counted::Refused(q) => q,
+        }
+    }
+}
+
+// What pending memory holds: its frozen entries, which come first, and all of them. Or the number of a refusal.
+pub enum PendingCount {
+    Now { frozen: Count, all: Count },
+    Refused(u8),
+}
+
+impl PendingCount {
+    // The refusal number, or 0.
+    pub fn refusal(self) -> u8
+        ensures { λ r. ⌜ r ≡ pendingRefusal self ⌝ }
+    {
+        match self {
+            PendingCount::Now { frozen, all } => 0,
+            PendingCount::Refused(q) => q,
         }
     }
 }

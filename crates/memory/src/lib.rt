@@ -1,25 +1,31 @@
 // Entries in lent memory: bytes back to back from the front, lengths in order, and a count. The public face:
-//   Limits                    how much pending memory holds; question 1 of its lent lengths, question 8
-//   Count, Counted            entries and their bytes; the answer of a step, a count or a refusal number
-//   ask_pending, ask_given    questions 1 and 2 of pending memory, question 4 of entries that a caller brings
-//   ask_append, append        entries come behind the pending ones
-//   take_front                the first pending entries leave, the others move to the front
-//   ask_replay_lent, ask_replay, next_of_replay   replay memory stays as it is, and what is taken of it is counted
-// Every function is total. On a refusal lent memory is as it was.
+//   Limits                          how much pending memory holds; question 1 of its lent lengths, question 8
+//   Count, Counted, PendingCount    entries and their bytes; a count or a refusal number; two counts or a refusal number
+//   count_pending                   questions 1 and 2 of pending memory, and what it holds: the frozen entries, and all
+//   count_given                     question 4 of entries that a caller brings, and what they are
+//   append_entries, append          entries come behind the pending ones
+//   move_front, take_front          the first pending entries leave, the others move to the front
+//   ask_replay_lent, count_left     questions 1 and 2 of replay memory, and what is left of it
+//   is_next, next_of_replay         are the given entries the next ones? Replay memory stays as it is, and what is taken of it is counted
+// Every function is total. `append_entries` and `move_front` ask nothing: a step that has asked calls them. `append`, `take_front` and
+// `next_of_replay` ask everything first, and on a refusal lent memory is as it was. Each question looks at a length once.
 mod count;
-mod entries;
+mod given;
 mod limits;
 mod pending;
 mod replay;
 
 pub use count::Count;
 pub use count::Counted;
-pub use entries::ask_given;
+pub use count::PendingCount;
+pub use given::count_given;
 pub use limits::Limits;
 pub use pending::append;
-pub use pending::ask_append;
-pub use pending::ask_pending;
+pub use pending::append_entries;
+pub use pending::count_pending;
+pub use pending::move_front;
 pub use pending::take_front;
-pub use replay::ask_replay;
 pub use replay::ask_replay_lent;
+pub use replay::count_left;
+pub use replay::is_next;
 pub use replay::next_of_replay;

@@ -1,18 +1,17 @@
-// Replay memory: N blocks of bytes and as many lengths. The entries stay in place, and what is taken of them is counted.
+// Replay memory: N blocks of bytes and as many lengths. The entries stay in place, and what is taken of them is counted; the state is what
+// is left.
 use super::count::Count;
 use super::count::Counted;
-use super::entries::ask_given;
-use super::entries::bytes_of;
-use super::entries::entries_ok;
-use runs::same_bytes;
-use runs::same_lengths;
+use super::given::count_given;
+use layout::Geometry;
+use lengths::Held;
+use lengths::entries_held;
+use runs::same_bytes_at;
+use runs::same_lengths_at;
 ghost use mathlib.Core.Path.{_≡_};
-ghost use Rattle.memory.specs.Entries.{memory, Countable};
-ghost use Rattle.memory.specs.Replay.{askReplayLent, takenOk, askReplay, nextOfReplay, nextAnswer, Compared};
-
-const BLOCK_SIZE: u64 = range::BLOCK_SIZE as u64;
-
-const MOST_BLOCKS: u64 = 4096;
+ghost use Rattle.memory.specs.Answer.{counted};
+ghost use Rattle.memory.specs.Given.{memory};
+ghost use Rattle.memory.specs.Replay.{askReplayLent, askReplay, leftOf, isNext, nextAnswer};
 
 // Question 1 of replay memory, by N and the lent lengths. N is the caller's, and isn't read off a length, which could be another store's.
 pub fn ask_replay_lent(blocks: u64, bytes: usize, lens: usize) -> u8
@@ -21,76 +20,59 @@ pub fn ask_replay_lent(blocks: u64, bytes: usize, lens: usize) -> u8
     if blocks < 1 {
         return 1;
     }
-    if MOST_BLOCKS < blocks {
+    if Geometry::MOST_BLOCKS < blocks {
         return 1;
     }
-    if bytes as u64 != blocks * BLOCK_SIZE {
+    if bytes as u64 != blocks * Geometry::BLOCK_SIZE {
         return 1;
     }
-    if lens as u64 != blocks * BLOCK_SIZE {
+    if lens as u64 != blocks * Geometry::BLOCK_SIZE {
         return 1;
     }
     0
 }
 
-// Are these the first of the n entries, with their bytes?
-fn taken_ok(lens: &[u16], n: u64, taken: Count) -> bool
-    requires { ⌜ Countable (now lens) n ⌝ }
-    ensures { λ r. ⌜ r ≡ takenOk (now (lens .entry)) n taken ⌝ }
-{
-    if n < taken.entries {
-        return false;
-    }
-    let bytes = bytes_of(lens, taken.entries);
-    bytes == taken.bytes
-}
-
-// Questions 1 and 2 of replay memory that holds n entries, of which some are taken.
-pub fn ask_replay(blocks: u64, bytes: &[u8], lens: &[u16], n: u64, taken: Count) -> u8
-    ensures { λ r. ⌜ r ≡ askReplay blocks (memory (now (bytes .entry)) (now (lens .entry)) n) taken ⌝ }
+// Questions 1 and 2 of replay memory that holds n entries, of which some are taken; and what is left. Only the lengths from what is taken
+// on are looked at.
+pub fn count_left(blocks: u64, bytes: &[u8], lens: &[u16], n: u64, taken: Count) -> Counted
+    ensures { λ r. ⌜ r ≡ counted (askReplay blocks (memory (now (bytes .entry)) (now (lens .entry)) n) taken) (leftOf (memory (now (bytes .entry)) (now (lens .entry)) n) taken) ⌝ }
 {
     let q = ask_replay_lent(blocks, bytes.len(), lens.len());
     if q != 0 {
-        return q;
+        return Counted::Refused(q);
     }
-    let ok = entries_ok(lens, n, lens.len() as u64, bytes.len() as u64);
-    if ok {
-        let first = taken_ok(lens, n, taken);
-        if first {
-            return 0;
-        }
-        return 2;
+    let size = bytes.len() as u64;
+    if size < taken.bytes {
+        return Counted::Refused(2);
     }
-    2
+    let h = entries_held(lens, taken.entries, n, size - taken.bytes);
+    let Held::Bytes(left) = h else {
+        return Counted::Refused(2);
+    };
+    Counted::Now(Count {
+        entries: n - taken.entries,
+        bytes: left,
+    })
 }
 
-// Are the k given entries the next ones? By their lengths, then by their bytes.
-fn is_next(
+// Are the new entries the next of those that are left, by their lengths and by their bytes? Asks nothing.
+pub fn is_next(
     bytes: &[u8],
     lens: &[u16],
-    n: u64,
+    left: u64,
     taken: Count,
     bodies: &[u8],
     sizes: &[u16],
-    k: u64,
+    new: Count,
 ) -> bool
-    requires { ⌜ Compared (memory (now bytes) (now lens) n) taken (memory (now bodies) (now sizes) k) ⌝ }
-    ensures { λ r. ⌜ r ≡ nextOfReplay (memory (now (bytes .entry)) (now (lens .entry)) n) taken (memory (now (bodies .entry)) (now (sizes .entry)) k) ⌝ }
+    ensures { λ r. ⌜ r ≡ isNext (now (bytes .entry)) (now (lens .entry)) left taken (now (bodies .entry)) (now (sizes .entry)) new ⌝ }
 {
-    if n - taken.entries < k {
+    if left < new.entries {
         return false;
     }
-    let count = k as usize;
-    let from = taken.entries as usize;
-    let to = from + count;
-    let lengths = same_lengths(&sizes[0..count], &lens[from..to]);
-    if lengths {
-        let size = bytes_of(sizes, k) as usize;
-        let at = taken.bytes as usize;
-        let end = at + size;
-        return same_bytes(&bodies[0..size], &bytes[at..end]);
-    }
-    false
+    let lengths = same_lengths_at(sizes, new.entries as usize, lens, taken.entries as usize);
+    let body = same_bytes_at(bodies, new.bytes as usize, bytes, taken.bytes as usize);
+    lengths & body
 }
 
 // The k given entries are taken: questions 1, 2 and 4, then 6, that they are exactly the next k of the replay.
@@ -106,22 +88,19 @@ pub fn next_of_replay(
 ) -> Counted
     ensures { λ r. ⌜ r ≡ nextAnswer blocks (memory (now (bytes .entry)) (now (lens .entry)) n) taken (memory (now (bodies .entry)) (now (sizes .entry)) k) ⌝ }
 {
-    let q = ask_replay(blocks, bytes, lens, n, taken);
-    if q != 0 {
-        return Counted::Refused(q);
-    }
-    let q4 = ask_given(bodies, sizes, k);
-    if q4 != 0 {
-        return Counted::Refused(q4);
-    }
-    let next = is_next(bytes, lens, n, taken, bodies, sizes, k);
+    let l = count_left(blocks, bytes, lens, n, taken);
+    let Counted::Now(left) = l else {
+        return l;
+    };
+    let g = count_given(bodies, sizes, k);
+    let Counted::Now(new) = g else {
+        return g;
+    };
+    let next = is_next(bytes, lens, left.entries, taken, bodies, sizes, new);
     if next {
-        let new = bytes_of(sizes, k);
-        let entries = taken.entries + k;
-        let sum = taken.bytes + new;
         return Counted::Now(Count {
-            entries,
-            bytes: sum,
+            entries: taken.entries + new.entries,
+            bytes: taken.bytes + new.bytes,
         });
     }
     Counted::Refused(6)

@@ -4,12 +4,13 @@ use mathlib.Core.Path.{_≡_, refl, sym, _∙_, ap}
 use mathlib.Core.List.{List, [], _∷_, _++_}
 use lib.ListN.{length, replicate}
 use Rattle.laws.specs.Fold.{sum}
+use Rattle.laws.specs.Digits.{digits}
 use Rattle.laws.specs.Cut.{flat, lengths, length-lengths}
-use Rattle.range.specs.Form.{Entry, LengthWidth, lowFirst, lengthBytes, used, blocksFor, encodeAt, encode, blocks}
+use Rattle.range.specs.Form.{Entry, LengthWidth, lengthBytes, used, blocksFor, encodeAt, encode, blocks}
 
 -- one entry, the byte 65 (hexadecimal 41)
 pub one-entry : encode ((65 ∷ []) ∷ []) ≡ 1 ∷ 0 ∷ 1 ∷ 0 ∷ 1 ∷ 65 ∷ replicate 4090 0
-unfolding encodeAt lowFirst lengthBytes flat lengths sum
+unfolding encodeAt digits lengthBytes flat lengths sum
 one-entry = refl
 
 -- the blocks follow from the lengths

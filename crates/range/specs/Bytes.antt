@@ -1,33 +1,34 @@
 -- Numbers and lengths as bytes: what is written low byte first reads back as it was, and bytes that were read are what would be written.
 -- Over the width w of a number in bytes. Assumes nothing.
 use Prim.Native.Nat.{ℕ, zero, suc, _+_, _*_, _/_, _%_, _^_, _≤_, _<_}
-use mathlib.Core.Bool.{Bool, true, false}
+use mathlib.Core.Bool.{Bool, true}
 use mathlib.Core.Path.{_≡_, refl, sym, _∙_, ap}
 use mathlib.Core.List.{List, [], _∷_, _++_, append-assoc}
-use native.Mathlib.Nat.{pow-suc, pow-zero, zero-mul, suc-mul, add-comm}
+use native.Mathlib.Nat.{zero-mul, suc-mul, add-comm}
 use native.Mathlib.Omega.{arith}
 use lib.ListN.{length, take, drop, getD, length-append, length-drop}
-use lib.Dec.{leb, ltb}
-use lib.Seq.{take-at, drop-at, take-add, drop-drop, length-take-le, getD-drop}
-use borrow.Author.Tests.{lt-ltb, le-leb, lt-leb, ltb-true, leb-true}
-use Rattle.laws.specs.Choice.{also, also-left, also-right, also-both, not-so}
+use lib.Dec.{leb}
+use lib.Seq.{take-at, drop-at, take-add, length-take-le, getD-drop}
+use borrow.Author.Tests.{lt-ltb, le-leb, ltb-true, leb-true}
+use Rattle.laws.specs.Choice.{also, also-left, also-right, also-both, also-true}
 use Rattle.laws.specs.Fold.{every, every-append, every-take, every-drop, every-all, every-at}
-use Rattle.range.specs.Form.{lowFirst, fromLow, lengthBytes, lengthsFrom, okLength, blockCount, entryCount}
+use Rattle.laws.specs.Digits.{fromDigits, isDigit, length-digits, digits-two, fromDigits-one, fromDigits-two, fromDigits-digits, digits-fromDigits, digits-each}
+use Rattle.range.specs.Form.{MostEntryLength, lowFirst, fromLow, lengthBytes, lengthsFrom, okLength, blockCount, entryCount}
 
 -- a number that a byte holds, and a list of such
-unfoldable pub isByte : ℕ → Bool
-isByte n = ltb n 256
+abbrev pub isByte : ℕ → Bool
+isByte = isDigit 256
 
 abbrev pub Bytes : List ℕ → Type 0
 Bytes xs = every isByte xs ≡ true
 
 -- what a lent slice knows of its elements
 pub bytes-all : (xs : List ℕ) → ((i : ℕ) → i < length xs → getD xs i 0 < 256) → Bytes xs
-unfolding isByte
+unfolding isDigit
 bytes-all xs f = every-all isByte xs 0 (λ i h. lt-ltb (getD xs i 0) 256 (f i h))
 
 pub bytes-at : (xs : List ℕ) (i : ℕ) → Bytes xs → i < length xs → getD xs i 0 < 256
-unfolding isByte
+unfolding isDigit
 bytes-at xs i b h = ltb-true (getD xs i 0) 256 (every-at isByte xs i 0 b h)
 
 -- a length within the limits
@@ -35,66 +36,46 @@ pub ok-low : (most n : ℕ) → okLength most n ≡ true → 1 ≤ n
 unfolding okLength
 ok-low most n e = leb-true 1 n (also-left (leb 1 n) (leb n most) e)
 
-pub ok-high : (most n : ℕ) → okLength most n ≡ true → n ≤ most
-unfolding okLength
-ok-high most n e = leb-true n most (also-right (leb 1 n) (leb n most) e)
-
 pub ok-yes : (most n : ℕ) → 1 ≤ n → n ≤ most → okLength most n ≡ true
 unfolding okLength
 ok-yes most n h k = also-both (leb 1 n) (leb n most) (le-leb 1 n h) (le-leb n most k)
 
--- one that is too short, and one that is too long
-pub ok-short : (most n : ℕ) → n < 1 → okLength most n ≡ false
-unfolding okLength also
-ok-short most n h = simp (lt-leb 1 n h)
-
-pub ok-long : (most n : ℕ) → most < n → okLength most n ≡ false
+pub ok-high : (most n : ℕ) → okLength most n ≡ true → n ≤ most
 unfolding okLength
-ok-long most n h = not-so (okLength most n) (λ e. let k = ok-high most n e in omega arith)
+ok-high most n e = leb-true n most (also-right (leb 1 n) (leb n most) e)
+
+-- a byte can't be above the greatest length of one byte
+pub ok-byte : (n : ℕ) → n < 256 → okLength MostEntryLength n ≡ leb 1 n
+unfolding okLength
+ok-byte n h = ap (also (leb 1 n)) (le-leb n MostEntryLength (omega arith)) ∙ also-true (leb 1 n)
 
 -- a number in w bytes
 pub length-lowFirst : (w n : ℕ) → length (lowFirst w n) ≡ w
-unfolding lowFirst
-length-lowFirst zero n = refl
-length-lowFirst (suc w) n = ap suc (length-lowFirst w (n / 256))
+length-lowFirst w n = length-digits 256 w n
 
 pub fromLow-lowFirst : (w n : ℕ) → n < 256 ^ w → fromLow (lowFirst w n) ≡ n
-unfolding lowFirst fromLow
-fromLow-lowFirst zero n h = omega (arith, rw (pow-zero 256) at h)
-fromLow-lowFirst (suc w) n h =
-    let k : n < 256 ^ w * 256 = rw (pow-suc 256 w) at h in
-    rw (fromLow-lowFirst w (n / 256) (omega arith)) (omega arith)
+fromLow-lowFirst w n h = fromDigits-digits 256 (omega arith) w n h
 
 pub lowFirst-fromLow : (xs : List ℕ) → Bytes xs → lowFirst (length xs) (fromLow xs) ≡ xs
-unfolding lowFirst fromLow every isByte
-lowFirst-fromLow [] b = refl
-lowFirst-fromLow (x ∷ xs) b =
-    let h : x < 256 = ltb-true x 256 (also-left (ltb x 256) (every isByte xs) b) in
-    let low : (x + fromLow xs * 256) % 256 ≡ x = omega arith in
-    let high : (x + fromLow xs * 256) / 256 ≡ fromLow xs = omega arith in
-    rw (low, high, lowFirst-fromLow xs (also-right (ltb x 256) (every isByte xs) b))
+lowFirst-fromLow xs b = digits-fromDigits 256 (omega arith) xs b
 
 pub lowFirst-bytes : (w n : ℕ) → Bytes (lowFirst w n)
-unfolding lowFirst every isByte
-lowFirst-bytes zero n = refl
-lowFirst-bytes (suc w) n =
-    also-both (ltb (n % 256) 256) (every isByte (lowFirst w (n / 256))) (lt-ltb (n % 256) 256 (omega arith)) (lowFirst-bytes w (n / 256))
+lowFirst-bytes w n = digits-each 256 (omega arith) w n
 
 -- the two counts, as a reader of single bytes has them
 pub blockCount-is : (xs : List ℕ) → blockCount xs ≡ getD xs 0 0 + getD xs 1 0 * 256
-unfolding blockCount fromLow
+unfolding blockCount fromDigits
 blockCount-is [] = refl
 blockCount-is (x ∷ []) = refl
-blockCount-is (x ∷ y ∷ xs) = omega arith
+blockCount-is (x ∷ y ∷ xs) = fromDigits-two 256 x y
 
 pub entryCount-is : (xs : List ℕ) → entryCount xs ≡ getD xs 2 0 + getD xs 3 0 * 256
 unfolding entryCount blockCount
 entryCount-is xs = blockCount-is (drop 2 xs) ∙ (λ i. getD-drop 2 xs 0 0 i + getD-drop 2 xs 1 0 i * 256)
 
 -- a count as a writer of single bytes has it
-pub low-two : (n : ℕ) → n < 65536 → lowFirst 2 n ≡ n % 256 ∷ n / 256 ∷ []
-unfolding lowFirst
-low-two n h = let e : n / 256 % 256 ≡ n / 256 = omega arith in rw e
+pub low-two : (n : ℕ) → lowFirst 2 n ≡ n % 256 ∷ n / 256 % 256 ∷ []
+low-two n = digits-two 256 n
 
 -- lengths in w bytes each
 pub length-lengthBytes : (w : ℕ) (ns : List ℕ) → length (lengthBytes w ns) ≡ length ns * w
@@ -107,12 +88,6 @@ pub length-lengthsFrom : (w e : ℕ) (xs : List ℕ) → length (lengthsFrom w e
 unfolding lengthsFrom
 length-lengthsFrom w zero xs = refl
 length-lengthsFrom w (suc e) xs = ap suc (length-lengthsFrom w e (drop w xs))
-
--- one length after another
-pub lengthBytes-append : (w : ℕ) (ns ms : List ℕ) → lengthBytes w (ns ++ ms) ≡ lengthBytes w ns ++ lengthBytes w ms
-unfolding lengthBytes
-lengthBytes-append w [] ms = refl
-lengthBytes-append w (n ∷ ns) ms = rw (lengthBytes-append w ns ms) (sym (append-assoc (lowFirst w n) (lengthBytes w ns) (lengthBytes w ms)))
 
 pub lengthBytes-bytes : (w : ℕ) (ns : List ℕ) → Bytes (lengthBytes w ns)
 unfolding lengthBytes every
@@ -146,31 +121,9 @@ lengthBytes-lengthsFrom w (suc e) xs b h =
     = lengthBytes-lengthsFrom w e (drop w xs) (every-drop isByte w xs b) (simp length-drop (omega arith)) in
     (λ i. first i ++ rest i) ∙ sym (take-add w (e * w) xs) ∙ ap (λ (n : ℕ). take n xs) (add-comm w (e * w) ∙ sym (suc-mul e w))
 
--- length i, and only the lengths' own bytes are looked at
-pub lengthsFrom-at : (w e : ℕ) (xs : List ℕ) (i : ℕ) → i < e → getD (lengthsFrom w e xs) i 0 ≡ fromLow (take w (drop (i * w) xs))
-unfolding lengthsFrom
-lengthsFrom-at w zero xs i h = absurd (omega arith)
-lengthsFrom-at w (suc e) xs zero h = ap (λ (n : ℕ). fromLow (take w (drop n xs))) (sym (zero-mul w))
-lengthsFrom-at w (suc e) xs (suc i) h =
-    lengthsFrom-at w e (drop w xs) i (omega arith)
-    ∙ ap (λ (l : List ℕ). fromLow (take w l)) (drop-drop (i * w) w xs)
-    ∙ ap (λ (n : ℕ). fromLow (take w (drop n xs))) (add-comm w (i * w) ∙ sym (suc-mul i w))
-
 -- at one byte each, lengths are their own bytes
-pub lengthBytes-one : (ns : List ℕ) → Bytes ns → lengthBytes 1 ns ≡ ns
-unfolding lengthBytes lowFirst every isByte
-lengthBytes-one [] b = refl
-lengthBytes-one (n ∷ ns) b =
-    let h : n < 256 = ltb-true n 256 (also-left (ltb n 256) (every isByte ns) b) in
-    let e : n % 256 ≡ n = omega arith in
-    λ i. e i ∷ lengthBytes-one ns (also-right (ltb n 256) (every isByte ns) b) i
-
 pub lengthsFrom-one : (e : ℕ) (xs : List ℕ) → e ≤ length xs → lengthsFrom 1 e xs ≡ take e xs
-unfolding lengthsFrom fromLow
+unfolding lengthsFrom
 lengthsFrom-one zero xs h = refl
 lengthsFrom-one (suc e) [] h = absurd (omega arith)
-lengthsFrom-one (suc e) (x ∷ xs) h = let z : x + 0 * 256 ≡ x = omega arith in λ i. z i ∷ lengthsFrom-one e xs (omega arith) i
-
--- lengths within the limits of one byte are bytes
-pub ok-bytes : (most : ℕ) (ns : List ℕ) → most < 256 → every (okLength most) ns ≡ true → Bytes ns
-ok-bytes most ns h e = bytes-all ns (λ i l. let k = ok-high most (getD ns i 0) (every-at (okLength most) ns i 0 e l) in omega arith)
+lengthsFrom-one (suc e) (x ∷ xs) h = λ i. fromDigits-one 256 x i ∷ lengthsFrom-one e xs (omega arith) i

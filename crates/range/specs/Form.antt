@@ -1,7 +1,7 @@
 -- The range, the one form that entries have on disk: block count (2 bytes, low first), entry count (2 bytes, low first), the length of
 -- each entry, the bodies back to back, then zeros up to the end of the last block. Any other form doesn't parse. Each definition takes
 -- the width of a length in bytes, `w`, and the greatest entry length, `most`; the format is these at the constants below. Assumes nothing.
-use Prim.Native.Nat.{ℕ, zero, suc, _+_, _*_, _-_, _/_, _%_, _≤_, max}
+use Prim.Native.Nat.{ℕ, zero, suc, _+_, _*_, _-_, _/_, _≤_, max}
 use mathlib.Core.Bool.{Bool, true, cond}
 use mathlib.Core.Path.{_≡_}
 use mathlib.Core.List.{List, [], _∷_, _++_, map}
@@ -11,13 +11,12 @@ use lib.Dec.{leb, eqb}
 use Rattle.laws.specs.Choice.{also}
 use Rattle.laws.specs.Fold.{sum, every}
 use Rattle.laws.specs.Cut.{cut, flat, lengths}
+use Rattle.laws.specs.Digits.{digits, fromDigits}
+pub use Rattle.layout.specs.Geometry.{BlockSize}
 
 -- an entry is a run of bytes
 abbrev pub Entry : Type 0
 Entry = List ℕ
-
-abbrev pub BlockSize : ℕ
-BlockSize = 4096
 
 abbrev pub MostEntries : ℕ
 MostEntries = 1024
@@ -33,13 +32,11 @@ abbrev pub HeadSize : ℕ
 HeadSize = 4
 
 -- a number in w bytes, low byte first, and the number that bytes make
-unfoldable pub lowFirst : ℕ → ℕ → List ℕ
-lowFirst zero n = []
-lowFirst (suc w) n = n % 256 ∷ lowFirst w (n / 256)
+abbrev pub lowFirst : ℕ → ℕ → List ℕ
+lowFirst w n = digits 256 w n
 
-unfoldable pub fromLow : List ℕ → ℕ
-fromLow [] = 0
-fromLow (x ∷ xs) = x + fromLow xs * 256
+abbrev pub fromLow : List ℕ → ℕ
+fromLow xs = fromDigits 256 xs
 
 -- lengths in w bytes each, and the first e lengths that bytes make
 unfoldable pub lengthBytes : ℕ → List ℕ → List ℕ
@@ -55,7 +52,7 @@ abbrev pub used : ℕ → ℕ → ℕ → ℕ
 used w n t = HeadSize + n * w + t
 
 abbrev pub blocksFor : ℕ → ℕ
-blocksFor u = (u + 4095) / BlockSize
+blocksFor u = (u + (BlockSize - 1)) / BlockSize
 
 -- the range of entries
 abbrev pub usedAt : ℕ → List Entry → ℕ

@@ -1,21 +1,19 @@
 -- Entries in lent memory: their bytes back to back from the front, their lengths in order, and a count. What the memory stands for
 -- depends on the counted part alone; entries written behind it come after the old ones, and moving the rest to the front takes the first
 -- ones off. Assumes nothing.
-use Prim.Native.Nat.{ℕ, _+_, _*_, _-_, _≤_, _<_}
+use Prim.Native.Nat.{ℕ, _+_, _*_, _-_, _≤_}
 use mathlib.Core.Bool.{true}
 use mathlib.Core.Path.{_≡_, refl, sym, _∙_, ap}
 use mathlib.Core.List.{List, [], _++_, append-nil}
 use native.Mathlib.Omega.{arith}
-use lib.ListN.{length, take, drop, getD, replicate}
-use lib.Seq.{take-take, length-take-le, getD-take, take-add}
+use lib.ListN.{length, take, drop, replicate}
+use lib.Seq.{take-take, length-take-le, take-add}
 use Rattle.laws.specs.Part.{drop-take, length-part}
 use Rattle.laws.specs.Splice.{splice, take-splice, take-splice-through, part-splice}
-use Rattle.laws.specs.Ring.{wrap}
-use Rattle.laws.specs.Around.{spliceAround}
 use Rattle.laws.specs.Fold.{sum, every, sum-append}
-use Rattle.laws.specs.Cut.{cut, flat, lengths, length-flat, length-cut, lengths-cut, flat-cut, cut-flat, cut-at, cut-append, cut-enough, cut-take, cut-drop}
+use Rattle.laws.specs.Cut.{cut, flat, lengths, length-flat, length-cut, lengths-cut, flat-cut, cut-flat, cut-append, cut-enough, cut-take, cut-drop}
 use Rattle.range.specs.Form.{Entry, BlockSize, MostEntries, HeadSize, lengthBytes, used, blocksFor, usedAt, blocksAt, encodeAt, okLength, Good}
-use Rattle.range.specs.Runs.{head, write-runs}
+use Rattle.range.specs.Runs.{head, encode-is}
 
 -- the n entries that bytes and lengths hold
 unfoldable pub view : List ℕ → List ℕ → ℕ → List Entry
@@ -24,6 +22,14 @@ view bytes lens n = cut (take n lens) bytes
 -- the bytes that n entries take
 abbrev pub total : List ℕ → ℕ → ℕ
 total lens n = sum (take n lens)
+
+-- the bytes that n lengths and t bytes of bodies in memory make, as a range
+abbrev pub rangeFrom : ℕ → List ℕ → List ℕ → ℕ → ℕ → List ℕ
+rangeFrom w bytes lens n t =
+    head (blocksFor (used w n t)) n
+    ++ lengthBytes w (take n lens)
+    ++ take t bytes
+    ++ replicate (blocksFor (used w n t) * BlockSize - used w n t) 0
 
 -- the bytes after lengths were written behind the counted ones, and the bytes of the first k entries and of the others
 pub total-write : (lens ms : List ℕ) (n : ℕ) → n ≤ length lens → total (splice lens n ms) (n + length ms) ≡ total lens n + sum ms
@@ -34,6 +40,10 @@ total-split lens n k m e =
     sym (sum-append (take k lens) (take m (drop k lens)))
     ∙ ap sum (sym (take-add k m lens))
     ∙ ap (λ (j : ℕ). sum (take j lens)) e
+
+-- the first entries take no more bytes than all
+pub total-front : (lens : List ℕ) (k n : ℕ) → k ≤ n → total lens k ≤ total lens n
+total-front lens k n h = let e : k + (n - k) ≡ n = omega arith in omega (arith, total-split lens n k (n - k) e)
 
 pub view-none : (bytes lens : List ℕ) → view bytes lens 0 ≡ []
 unfolding view cut
@@ -51,13 +61,6 @@ module _ (bytes lens : List ℕ) (n : ℕ) where
   pub flat-view : flat (view bytes lens n) ≡ take (total lens n) bytes
   unfolding view
   flat-view = flat-cut (take n lens) bytes
-
-  -- entry i as a part of the bytes
-  pub view-at : (i : ℕ) → i < n → n ≤ length lens → getD (view bytes lens n) i [] ≡ take (getD lens i 0) (drop (total lens i) bytes)
-  unfolding view
-  view-at i h k =
-      cut-at (take n lens) bytes i (rw (length-take-le n lens k) h)
-      ∙ (λ j. take (getD-take n lens i 0 h j) (drop (sum (take-take i n lens (omega (arith, h)) j)) bytes))
 
   -- only what is counted is looked at
   pub view-same : (bytes′ lens′ : List ℕ) → take n lens ≡ take n lens′ → take (total lens n) bytes ≡ take (total lens n) bytes′
@@ -159,35 +162,12 @@ module _ (w most : ℕ) (bytes lens : List ℕ) (n : ℕ) (hn : n ≤ length len
   pub blocksAt-view : blocksAt w (view bytes lens n) ≡ blocksFor (used w n (total lens n))
   blocksAt-view = ap blocksFor usedAt-view
 
-  -- written run by run into a ring: b blocks, the lengths' bytes ls, t bytes of bodies, z zeros, at the writer's own places
-  pub write-view : (out x1 x2 x3 x4 ls : List ℕ) (at b t z p2 p3 p4 : ℕ) → b ≡ blocksFor (used w n t) → t ≡ total lens n → z + used w n t ≡ b * BlockSize
-      → at < length out → b * BlockSize ≤ length out → ls ≡ lengthBytes w (take n lens) → p2 ≡ wrap (length out) (at + HeadSize)
-      → p3 ≡ wrap (length out) (at + (HeadSize + n * w)) → p4 ≡ wrap (length out) (at + used w n t)
-      → x1 ≡ spliceAround out at (head b n)
-      → x2 ≡ spliceAround x1 p2 ls
-      → x3 ≡ spliceAround x2 p3 (take t bytes)
-      → x4 ≡ spliceAround x3 p4 (replicate z 0)
-      → x4 ≡ spliceAround out at (encodeAt w (view bytes lens n))
-  write-view out x1 x2 x3 x4 ls at b t z p2 p3 p4 eb et ez h fits el e2 e3 e4 q1 q2 q3 q4 =
-      write-runs w (view bytes lens n) out x1 x2 x3 x4 at p2 p3 p4
-      h
-      (omega (arith, fits, blocks))
-      e2
-      (e3 ∙ ap (λ (m : ℕ). wrap (length out) (at + (HeadSize + m * w))) (sym count))
-      (e4 ∙ ap (λ (m : ℕ). wrap (length out) (at + m)) uses)
-      (q1 ∙ (λ i. spliceAround out at (head (blocks i) (sym count i))))
-      (q2 ∙ ap (spliceAround x1 p2) (el ∙ ap (lengthBytes w) (sym (lengths-view bytes lens n ht))))
-      (q3 ∙ ap (spliceAround x2 p3) (ap (λ (m : ℕ). take m bytes) et ∙ sym (flat-view bytes lens n)))
-      (q4 ∙ ap (λ (m : ℕ). spliceAround x3 p4 (replicate m 0)) zeros)
-    where
-      count : length (view bytes lens n) ≡ n
-      count = length-view bytes lens n hn
-
-      uses : used w n t ≡ usedAt w (view bytes lens n)
-      uses = ap (used w n) et ∙ sym usedAt-view
-
-      blocks : b ≡ blocksAt w (view bytes lens n)
-      blocks = eb ∙ ap blocksFor uses
-
-      zeros : z ≡ blocksAt w (view bytes lens n) * BlockSize - usedAt w (view bytes lens n)
-      zeros = omega (arith, ez, uses, blocks)
+  -- it is what n and the bytes' count make of the memory
+  pub rangeFrom-view : rangeFrom w bytes lens n (total lens n) ≡ encodeAt w (view bytes lens n)
+  rangeFrom-view =
+      (λ i.
+      head (sym blocksAt-view i) (sym (length-view bytes lens n hn) i)
+      ++ lengthBytes w (sym (lengths-view bytes lens n ht) i)
+      ++ sym (flat-view bytes lens n) i
+      ++ replicate {A = ℕ} (sym blocksAt-view i * BlockSize - sym usedAt-view i) 0)
+      ∙ sym (encode-is w (view bytes lens n))

@@ -14,6 +14,7 @@ use borrow.Author.Tests.{eqb-true}
 use Rattle.laws.specs.Choice.{also-left, also-right, also-both, cond-some}
 use Rattle.laws.specs.Fold.{sum, every, every-append, every-take, every-drop, every-replicate}
 use Rattle.laws.specs.Part.{length-part, part-then}
+use Rattle.laws.specs.Digits.{isDigit}
 use Rattle.laws.specs.Cut.{cut, flat, lengths, length-lengths, length-flat, lengths-cut, flat-cut, cut-flat}
 use Rattle.range.specs.Form.{Entry, BlockSize, HeadSize, lowFirst, fromLow, lengthBytes, lengthsFrom, blocksFor, usedAt, blocksAt, encodeAt, blockCount, entryCount, lengthsAt, usedIn, entriesAt, isZero, parsesAt, parseAt, Good}
 use Rattle.range.specs.Bytes.{isByte, Bytes, length-lowFirst, fromLow-lowFirst, lowFirst-fromLow, lowFirst-bytes, length-lengthBytes, lengthBytes-bytes, lengthsFrom-lengthBytes, lengthBytes-lengthsFrom}
@@ -57,7 +58,7 @@ module _ (w : ℕ) (es : List Entry) where
 
 -- an encoded range of bytes is bytes
 pub encode-bytes : (w : ℕ) (es : List Entry) → Bytes (flat es) → Bytes (encodeAt w es)
-unfolding isByte
+unfolding isDigit
 encode-bytes w es b =
     ap (every isByte) (encode-runs w es)
     ∙ joined (lowFirst 2 (blocksAt w es)) (lowFirst 2 (length es) ++ (lengthBytes w (lengths es) ++ (flat es ++ padding w es))) (lowFirst-bytes 2 (blocksAt w es))

@@ -1,5 +1,5 @@
--- The clauses of `parsesAt` as plain facts, with what follows from them: bytes parse exactly where they have this shape. Then the ways
--- out of a reader that asks one clause after another, and where the body of an entry lies. Assumes nothing.
+-- The clauses of `parsesAt` as plain facts, with what follows from them: bytes parse exactly where they have this shape. Then where the
+-- body of an entry lies. Assumes nothing.
 use Prim.Native.Nat.{ℕ, _+_, _*_, _≤_, _<_}
 use mathlib.Core.Bool.{true, false}
 use mathlib.Core.Path.{_≡_, sym, _∙_, ap}
@@ -8,11 +8,11 @@ use native.Mathlib.Omega.{arith}
 use lib.ListN.{length, take, drop, getD, length-drop}
 use lib.Seq.{drop-drop, take-take, getD-take, getD-drop}
 use borrow.Author.Tests.{eq-eqb, le-leb, eqb-true, leb-true}
-use Rattle.laws.specs.Choice.{also-left, also-right, also-both, not-so, false-true}
+use Rattle.laws.specs.Choice.{also-left, also-right, also-both, not-so}
 use Rattle.laws.specs.Fold.{sum, every, sum-split, sum-take-step}
 use Rattle.laws.specs.Cut.{length-cut, cut-at}
-use Rattle.range.specs.Form.{BlockSize, MostEntries, HeadSize, fromLow, blocksFor, blockCount, entryCount, lengthsAt, usedIn, entriesAt, okLength, isZero, parsesAt}
-use Rattle.range.specs.Bytes.{length-lengthsFrom, lengthsFrom-at, lengthsFrom-one}
+use Rattle.range.specs.Form.{BlockSize, MostEntries, HeadSize, blocksFor, blockCount, entryCount, lengthsAt, usedIn, entriesAt, okLength, isZero, parsesAt}
+use Rattle.range.specs.Bytes.{length-lengthsFrom, lengthsFrom-one}
 
 pub record Shape (w most : ℕ) (xs : List ℕ) : Type 0 where
   pub whole : length xs ≡ blockCount xs * BlockSize
@@ -66,41 +66,9 @@ module _ (w most : ℕ) (xs : List ℕ) where
       (also-both _ _ (s .each)
       (also-both _ _ (eq-eqb (blockCount xs) (blocksFor (usedIn w xs)) (s .fewest)) (s .zeros)))))
 
--- the ways out of a reader, in the order of its questions: each clause that fails alone decides
-module _ (w most : ℕ) (xs : List ℕ) where
-  parses-not : (Shape w most xs → ⊥) → false ≡ parsesAt w most xs
-  parses-not f = sym (not-so (parsesAt w most xs) (λ p. f (shape-facts w most xs p)))
-
-  pub parses-short : length xs < HeadSize → false ≡ parsesAt w most xs
-  parses-short h = parses-not (λ s. omega arith)
-
-  pub parses-part : (length xs ≡ blockCount xs * BlockSize → ⊥) → false ≡ parsesAt w most xs
-  parses-part h = parses-not (λ s. h (s .whole))
-
-  pub parses-none : entryCount xs ≡ 0 → false ≡ parsesAt w most xs
-  parses-none h = parses-not (λ s. omega arith)
-
-  pub parses-many : MostEntries < entryCount xs → false ≡ parsesAt w most xs
-  parses-many h = parses-not (λ s. omega arith)
-
-  pub parses-past : length xs < HeadSize + entryCount xs * w → false ≡ parsesAt w most xs
-  parses-past h = parses-not (λ s. omega arith)
-
-  pub parses-bad-length : every (okLength most) (lengthsAt w xs) ≡ false → false ≡ parsesAt w most xs
-  parses-bad-length h = parses-not (λ s. false-true (sym h ∙ s .each))
-
-  pub parses-over : length xs < usedIn w xs → false ≡ parsesAt w most xs
-  parses-over h = parses-not (λ s. omega arith)
-
-  pub parses-not-fewest : (blockCount xs ≡ blocksFor (usedIn w xs) → ⊥) → false ≡ parsesAt w most xs
-  parses-not-fewest h = parses-not (λ s. h (s .fewest))
-
-  pub parses-nonzero : every isZero (drop (usedIn w xs) xs) ≡ false → false ≡ parsesAt w most xs
-  parses-nonzero h = parses-not (λ s. false-true (sym h ∙ s .zeros))
-
-  pub parses-yes : length xs ≡ blockCount xs * BlockSize → 1 ≤ entryCount xs → entryCount xs ≤ MostEntries → every (okLength most) (lengthsAt w xs) ≡ true
-      → blockCount xs ≡ blocksFor (usedIn w xs) → every isZero (drop (usedIn w xs) xs) ≡ true → true ≡ parsesAt w most xs
-  parses-yes l a f e b z = sym (shape-yes w most xs (shape-of w most xs l a f e b z))
+-- bytes of another size don't parse
+pub parses-part : (w most : ℕ) (xs : List ℕ) → (length xs ≡ blockCount xs * BlockSize → ⊥) → false ≡ parsesAt w most xs
+parses-part w most xs h = sym (not-so (parsesAt w most xs) (λ p. h (shape-facts w most xs p .whole)))
 
 -- the lengths and the entries of a range
 module _ (w : ℕ) (xs : List ℕ) where
@@ -112,13 +80,7 @@ module _ (w : ℕ) (xs : List ℕ) where
   unfolding entriesAt
   length-entriesAt = length-cut (lengthsAt w xs) (drop (HeadSize + entryCount xs * w) xs) ∙ length-lengthsAt
 
-  -- length i by its place, and entry i as a part of the bytes
-  pub lengthsAt-at : (i : ℕ) → i < entryCount xs → getD (lengthsAt w xs) i 0 ≡ fromLow (take w (drop (HeadSize + i * w) xs))
-  unfolding lengthsAt
-  lengthsAt-at i h =
-      lengthsFrom-at w (entryCount xs) (drop HeadSize xs) i h
-      ∙ ap (λ (l : List ℕ). fromLow (take w l)) (drop-drop (i * w) HeadSize xs)
-
+  -- entry i as a part of the bytes
   pub entry-at : (i : ℕ) → i < entryCount xs
       → getD (entriesAt w xs) i [] ≡ take (getD (lengthsAt w xs) i 0) (drop (HeadSize + entryCount xs * w + sum (take i (lengthsAt w xs))) xs)
   unfolding entriesAt

@@ -7,19 +7,31 @@ use mathlib.Core.Path.{_≡_, sym, _∙_, ap}
 use mathlib.Core.List.{List, [], _++_, map}
 use native.Mathlib.Omega.{arith}
 use lib.ListN.{length, take, drop, length-take, length-drop}
-use lib.Seq.{take-all, take-take, drop-drop}
+use lib.Seq.{take-take, drop-drop, length-take-le}
 use Rattle.laws.specs.Choice.{also}
-use Rattle.laws.specs.Part.{drop-end}
+use Rattle.laws.specs.Part.{drop-end, part-of-front}
 use Rattle.laws.specs.Fold.{every}
 use Rattle.laws.specs.Cut.{flat}
-use Rattle.range.specs.Form.{BlockSize, fromLow, blockCount, entriesAt, parsesAt, rangeSize, rangesWithin, ranges, allParseAt, allEntriesAt}
-use Rattle.range.specs.Shape.{parses-part}
+use Rattle.range.specs.Form.{BlockSize, LengthWidth, HeadSize, fromLow, blockCount, entryCount, lengthsAt, entriesAt, parsesAt, rangeSize, rangesWithin, ranges, allParseAt, allEntriesAt}
+use Rattle.range.specs.Shape.{parses-part, lengthsAt-one}
 use Rattle.range.specs.Ranges.{ranges-step}
 
--- the block count stands in the first two bytes
+-- the counts and the lengths stand in the first bytes
 pub blockCount-take : (n : ℕ) (xs : List ℕ) → 2 ≤ n → blockCount (take n xs) ≡ blockCount xs
 unfolding blockCount
 blockCount-take n xs h = ap fromLow (take-take 2 n xs h)
+
+pub entryCount-take : (n : ℕ) (xs : List ℕ) → HeadSize ≤ n → entryCount (take n xs) ≡ entryCount xs
+unfolding entryCount
+entryCount-take n xs h = ap fromLow (part-of-front xs n 2 2 h)
+
+pub lengthsAt-take : (n : ℕ) (xs : List ℕ) → HeadSize + entryCount xs ≤ n → n ≤ length xs → lengthsAt LengthWidth (take n xs) ≡ lengthsAt LengthWidth xs
+lengthsAt-take n xs h k =
+    let e : entryCount (take n xs) ≡ entryCount xs = entryCount-take n xs (omega arith) in
+    lengthsAt-one (take n xs) (omega (arith, e, length-take-le n xs k))
+    ∙ ap (λ (m : ℕ). take m (drop HeadSize (take n xs))) e
+    ∙ part-of-front xs n HeadSize (entryCount xs) h
+    ∙ sym (lengthsAt-one xs (omega arith))
 
 module _ (w most : ℕ) (xs : List ℕ) (at : ℕ) where
   here : at < length xs → 0 < length (drop at xs)
@@ -62,18 +74,10 @@ module _ (w most : ℕ) (xs : List ℕ) (at : ℕ) where
         ∙ (λ i. also (parsesAt w most (take (size i) (drop at xs))) (allParseAt w most (drop (size i) (drop at xs))))
         ∙ ap (λ (l : List ℕ). also (parsesAt w most (take n (drop at xs))) (allParseAt w most l)) (drop-drop n at xs)
 
-    -- this one doesn't parse, or passes the end; this one does
+    -- this one doesn't parse; this one does
     pub all-no : allParseAt w most (drop at xs) ≡ allParseAt w most xs → parsesAt w most (take n (drop at xs)) ≡ false → false ≡ allParseAt w most xs
     unfolding also
     all-no e q = (λ i. also (sym q i) (allParseAt w most (drop (at + n) xs))) ∙ sym all-next ∙ e
-
-    pub all-past : allParseAt w most (drop at xs) ≡ allParseAt w most xs → length xs < at + n → false ≡ allParseAt w most xs
-    all-past e l = all-no e (sym bad)
-      where
-        bad : false ≡ parsesAt w most (take n (drop at xs))
-        bad =
-            rw (take-all n (drop at xs) (simp length-drop (omega arith)))
-            (parses-part w most (drop at xs) (λ q. omega (arith, length-drop at xs)))
 
     pub all-yes : allParseAt w most (drop at xs) ≡ allParseAt w most xs → parsesAt w most (take n (drop at xs)) ≡ true
         → allParseAt w most (drop (at + n) xs) ≡ allParseAt w most xs

@@ -1,7 +1,12 @@
-// The numbers of the range format (document 01, "Range"), for the crates that read and write it. Its definitions and laws stand in specs/.
+// The range format (document 01, "Range"), for the crates that read and write it: its numbers here, its definitions and laws in specs/.
+//   blocks_of   the fewest blocks that hold the range of so many entries with so many bytes
+mod size;
 
-// A block's bytes.
-pub const BLOCK_SIZE: usize = 4096;
+use layout::Geometry;
+pub use size::blocks_of;
+
+// A block's bytes, as a number of places in lent memory.
+pub const BLOCK_SIZE: usize = Geometry::BLOCK_SIZE as usize;
 
 // The two counts, of two bytes each.
 pub const HEAD_SIZE: usize = 4;

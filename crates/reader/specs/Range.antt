@@ -1,20 +1,18 @@
--- What the reader of one range asks and answers: the contents that the bytes give, in the reader's own numbers, and the ways out of its
--- questions. Assumes nothing.
+-- What bytes say of themselves, taken as a range, in a reader's own numbers; and the question and the count alone, from what was scanned.
+-- Assumes nothing.
 use Prim.Native.Nat.{ℕ, _+_, _*_, _-_, _≤_, _<_}
-use mathlib.Core.Bool.{Bool, true, false, cond}
+use mathlib.Core.Bool.{Bool, true, cond}
 use mathlib.Core.Path.{_≡_, refl, sym, _∙_, ap}
 use mathlib.Core.List.{List}
 use native.Mathlib.Omega.{arith}
 use lib.ListN.{length, take, drop, getD}
 use lib.Dec.{leb, eqb}
 use borrow.Author.Tests.{le-leb, lt-leb, eq-eqb, leb-true, eqb-true}
-use Rattle.laws.specs.Choice.{by-leb, also, ask, ask-yes, also-left, also-right, also-both, not-so, false-true}
-use Rattle.laws.specs.Part.{tail-is}
-use Rattle.laws.specs.Fold.{sum, every, sum-bound}
-use Rattle.range.specs.Form.{BlockSize, MostEntries, MostEntryLength, LengthWidth, HeadSize, used, blocksFor, blockCount, entryCount, lengthsAt, usedIn, okLength, isZero, entries, parses}
+use Rattle.laws.specs.Choice.{by-leb, also, ask, ask-yes, also-left, also-right, also-both}
+use Rattle.laws.specs.Fold.{sum, sum-bound}
+use Rattle.range.specs.Form.{MostEntries, MostEntryLength, LengthWidth, HeadSize, used, blocksFor, blockCount, entryCount, lengthsAt, entries, parses}
 use Rattle.range.specs.Bytes.{Bytes, bytes-at, blockCount-is, entryCount-is}
-use Rattle.range.specs.Shape.{Shape, shape-of, shape-facts, shape-yes, lengthsAt-one, lengthsAt-one-at, length-lengthsAt, length-entriesAt}
-use Rattle.range.specs.Round.{lengths-entriesAt}
+use Rattle.range.specs.Shape.{Shape, shape-facts, lengthsAt-one, lengthsAt-one-at, length-lengthsAt, length-entriesAt}
 use Rattle.reader.specs.declared.answer.Contents.{Contents}
 use Rattle.reader.specs.declared.answer.Scanned.the-variants as scan
 use Rattle.reader.specs.declared.answer.Counted.the-variants as count
@@ -125,81 +123,6 @@ counts-facts c h =
       few = leb-true (c .entries) MostEntries (also-left _ _ k);
       fewest = eqb-true (c .blocks) (blocksFor (used LengthWidth (c .entries) (c .bytes))) (also-right _ _ k);
     }
-
-pub counts-no : (c : Contents) → (Counts c → ⊥) → false ≡ countsOk c
-counts-no c h = sym (not-so (countsOk c) (λ k. h (counts-facts c k)))
-
--- the ways out: bytes that are no range are a 7, of a range the answer is what it holds
-scan-not : (xs : List ℕ) → (Shape LengthWidth MostEntryLength xs → ⊥) → scan.Refused 7 ≡ scanned (ask 7 (parses xs)) (entries xs)
-unfolding ask
-scan-not xs h = ap (λ (p : Bool). scanned (ask 7 p) (entries xs)) (sym (not-so (parses xs) (λ p. h (shape-facts LengthWidth MostEntryLength xs p))))
-
-scan-yes : (xs : List ℕ) (e t : ℕ) → Shape LengthWidth MostEntryLength xs → e ≡ entryCount xs → t ≡ sum (lengthsAt LengthWidth xs)
-    → scan.Total e t ≡ scanned (ask 7 (parses xs)) (entries xs)
-unfolding ask
-scan-yes xs e t s he ht =
-    simp (shape-yes LengthWidth MostEntryLength xs s)
-    (λ i.
-    scan.Total ((he ∙ sym (length-entriesAt LengthWidth xs)) i)
-    ((ht ∙ ap sum (sym (lengths-entriesAt LengthWidth MostEntryLength xs s))) i))
-
-module _ (xs : List ℕ) (c : Contents) (hc : c ≡ contentsOf xs) where
-  pub scan-small : Bytes xs → Small c
-  scan-small b = rw hc (contents-small xs b)
-
-  -- bytes that parse have the contents of a range
-  shape-said : Shape LengthWidth MostEntryLength xs → Said xs c
-  shape-said s = rw hc (contents-whole xs (s .lengths-in))
-
-  pub scan-part : (length xs ≡ c .blocks * BlockSize → ⊥) → scan.Refused 7 ≡ scanned (ask 7 (parses xs)) (entries xs)
-  scan-part h = scan-not xs (λ s. h (omega (arith, shape-said s .blocks)))
-
-  pub scan-counts : countsOk c ≡ false → scan.Refused 7 ≡ scanned (ask 7 (parses xs)) (entries xs)
-  scan-counts h =
-      scan-not xs
-      (λ s.
-      let k = shape-said s in
-      let u : used LengthWidth (c .entries) (c .bytes) ≡ usedIn LengthWidth xs = omega arith in
-      false-true
-      (sym h
-      ∙ counts-yes c (record { any = omega arith; few = omega arith; fewest = k .blocks ∙ s .fewest ∙ ap blocksFor (sym u) })))
-
-  module _ (k : countsOk c ≡ true) where
-    pub scan-said : Said xs c
-    scan-said = let a : 1 ≤ contentsOf xs .entries = rw hc at (counts-facts c k .any) in rw hc (contents-said xs (omega arith))
-
-    module _ (q : Bool) (hq : q ≡ every (okLength MostEntryLength) (take (HeadSize + c .entries - HeadSize) (drop HeadSize xs))) where
-      each : q ≡ every (okLength MostEntryLength) (lengthsAt LengthWidth xs)
-      each = let s = scan-said in hq ∙ ap (every (okLength MostEntryLength)) (lengths-part xs (c .entries) (s .count) (s .within))
-
-      pub scan-bad-length : q ≡ false → scan.Refused 7 ≡ scanned (ask 7 (parses xs)) (entries xs)
-      scan-bad-length h = scan-not xs (λ s. false-true (sym (sym each ∙ h) ∙ s .each))
-
-      module _ (z : Bool) (hz : z ≡ every isZero (take (length xs - (HeadSize + c .entries + c .bytes)) (drop (HeadSize + c .entries + c .bytes) xs))) where
-        zeros : z ≡ every isZero (drop (usedIn LengthWidth xs) xs)
-        zeros =
-            let s = scan-said in
-            let u : HeadSize + c .entries + c .bytes ≡ usedIn LengthWidth xs = omega arith in
-            hz ∙ ap (every isZero) (tail-is xs (HeadSize + c .entries + c .bytes)) ∙ ap (λ (n : ℕ). every isZero (drop n xs)) u
-
-        pub scan-nonzero : z ≡ false → scan.Refused 7 ≡ scanned (ask 7 (parses xs)) (entries xs)
-        scan-nonzero h = scan-not xs (λ s. false-true (sym (sym zeros ∙ h) ∙ s .zeros))
-
-        pub scan-all : length xs ≡ c .blocks * BlockSize → q ≡ true → z ≡ true → scan.Total (c .entries) (c .bytes) ≡ scanned (ask 7 (parses xs)) (entries xs)
-        scan-all l p o =
-            let s = scan-said in
-            let f = counts-facts c k in
-            let u : used LengthWidth (c .entries) (c .bytes) ≡ usedIn LengthWidth xs = omega arith in
-            scan-yes xs (c .entries) (c .bytes)
-            (shape-of LengthWidth MostEntryLength xs
-            (omega arith)
-            (omega arith)
-            (omega arith)
-            (sym each ∙ p)
-            (sym (s .blocks) ∙ f .fewest ∙ ap blocksFor u)
-            (sym zeros ∙ o))
-            (s .count)
-            (s .bytes)
 
 -- the question alone, and the count alone, from what was scanned
 module _ (xs : List ℕ) where

@@ -7,6 +7,12 @@ pub struct Contents {
     pub bytes: usize,
 }
 
+// The range in front of some bytes, or that none stands there.
+pub enum Front {
+    Range(Contents),
+    Nothing,
+}
+
 // How many entries, and how many bytes they have together.
 pub enum Scanned {
     Total { entries: u64, bytes: u64 },

@@ -21,7 +21,7 @@ pub(crate) fn body_start(s: &[u8], i: usize) -> usize
 {
     let entries = entry_count(s);
     let end = HEAD_SIZE + i;
-    let before = total(&s[HEAD_SIZE..end]);
+    let before = total(&s[HEAD_SIZE..end]) as usize;
     HEAD_SIZE + entries + before
 }
 

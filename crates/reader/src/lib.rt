@@ -1,5 +1,6 @@
 // The reader of one range (document 01, "Range") over lent bytes. The public face:
 //   contents       what the bytes say of themselves: block count, entry count, the sum of the lengths
+//   range_in_front the range that the bytes begin with: its blocks, its entries, their bytes
 //   ask_range      question 7: do the bytes parse as a range?
 //   scan_range     how many entries the range has, and how many bytes these have together
 //   count          how many entries
@@ -16,6 +17,7 @@ mod walk;
 
 pub use answer::Contents;
 pub use answer::Counted;
+pub use answer::Front;
 pub use answer::Scanned;
 pub use body::entry;
 pub use body::entry_refusal;
@@ -23,4 +25,5 @@ pub use listing::list;
 pub use parse::ask_range;
 pub use parse::contents;
 pub use parse::count;
+pub use parse::range_in_front;
 pub use parse::scan_range;

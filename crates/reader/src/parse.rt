@@ -1,6 +1,7 @@
 // One range: do the bytes parse as it, and how much does it hold?
 use super::answer::Contents;
 use super::answer::Counted;
+use super::answer::Front;
 use super::answer::Scanned;
 use super::head::block_count;
 use super::head::entry_count;
@@ -10,12 +11,13 @@ use super::walk::zeros;
 use range::BLOCK_SIZE;
 use range::HEAD_SIZE;
 use range::MOST_ENTRIES;
+use range::blocks_of;
 ghost use mathlib.Core.Path.{_≡_};
-ghost use Prim.Native.Nat.{_<_};
 ghost use lib.ListN.{length};
 ghost use Rattle.laws.specs.Choice.{ask};
 ghost use Rattle.range.specs.Form.{entries, parses};
 ghost use Rattle.reader.specs.Answer.{counted, scanned};
+ghost use Rattle.reader.specs.Front.{frontOf};
 ghost use Rattle.reader.specs.Range.{contentsOf, countsOk};
 
 // What the bytes say of themselves; all 0 where head and lengths aren't all there.
@@ -36,7 +38,7 @@ pub fn contents(s: &[u8]) -> Contents
         return nothing;
     }
     let blocks = block_count(s);
-    let bytes = total(&s[HEAD_SIZE..bodies]);
+    let bytes = total(&s[HEAD_SIZE..bodies]) as usize;
     Contents {
         blocks,
         entries,
@@ -46,7 +48,6 @@ pub fn contents(s: &[u8]) -> Contents
 
 // Are the counts those of a range: from 1 to 1,024 entries, and no block more than is needed?
 fn counts_ok(c: Contents) -> bool
-    requires { ⌜ (c .entries < 65536) × (c .bytes < 16777216) ⌝ }
     ensures { λ r. ⌜ r ≡ countsOk c ⌝ }
 {
     if c.entries < 1 {
@@ -55,33 +56,47 @@ fn counts_ok(c: Contents) -> bool
     if MOST_ENTRIES < c.entries {
         return false;
     }
-    if c.blocks != (HEAD_SIZE + c.entries + c.bytes + (BLOCK_SIZE - 1)) / BLOCK_SIZE {
-        return false;
+    let fewest = blocks_of(c.entries as u64, c.bytes as u64);
+    c.blocks as u64 == fewest
+}
+
+// The range that the bytes begin with, as long as it says, and what it holds: by one look at the lengths for their sum, one for their
+// limits, and one at the padding.
+pub fn range_in_front(s: &[u8]) -> Front
+    ensures { λ r. ⌜ r ≡ frontOf (now (s .entry)) ⌝ }
+{
+    let c = contents(s);
+    let size = c.blocks * BLOCK_SIZE;
+    if s.len() < size {
+        return Front::Nothing;
     }
-    true
+    if counts_ok(c) {
+        let bodies = HEAD_SIZE + c.entries;
+        let end = bodies + c.bytes;
+        if lengths_ok(&s[HEAD_SIZE..bodies]) {
+            if zeros(&s[end..size]) {
+                return Front::Range(c);
+            }
+        }
+    }
+    Front::Nothing
 }
 
 // How many entries the range has, and how many bytes these have together. A 7 where the bytes are no range.
 pub fn scan_range(s: &[u8]) -> Scanned
     ensures { λ r. ⌜ r ≡ scanned (ask 7 (parses (now (s .entry)))) (entries (now (s .entry))) ⌝ }
 {
-    let c = contents(s);
+    let f = range_in_front(s);
+    let Front::Range(c) = f else {
+        return Scanned::Refused(7);
+    };
     if s.len() != c.blocks * BLOCK_SIZE {
         return Scanned::Refused(7);
     }
-    if counts_ok(c) {
-        let bodies = HEAD_SIZE + c.entries;
-        let end = bodies + c.bytes;
-        if lengths_ok(&s[HEAD_SIZE..bodies]) {
-            if zeros(&s[end..]) {
-                return Scanned::Total {
-                    entries: c.entries as u64,
-                    bytes: c.bytes as u64,
-                };
-            }
-        }
+    Scanned::Total {
+        entries: c.entries as u64,
+        bytes: c.bytes as u64,
     }
-    Scanned::Refused(7)
 }
 
 // Question 7: do the bytes parse as a range?

@@ -1,49 +1,69 @@
-// Walks over a run of bytes: the lengths are summed and looked at, the padding is looked at.
-use super::head::wide;
+// Walks over a run of bytes: the lengths are summed and looked at, the padding is looked at. A loop keeps a flag or a sum and has no way
+// out, so that the compiler can look at many bytes at once.
 ghost use mathlib.Core.Path.{_≡_};
 ghost use Prim.Native.Nat.{_*_, _≤_, _<_};
 ghost use lib.ListN.{length};
+ghost use Rattle.laws.specs.Choice.{also};
 ghost use Rattle.laws.specs.Fold.{sum, every};
 ghost use Rattle.range.specs.Form.{MostEntryLength, okLength, isZero};
 
-// The sum of the lengths.
-pub(crate) fn total(lengths: &[u8]) -> usize
+fn wide(x: u8) -> u32
+    ensures { λ r. ⌜ (r ≡ x) × (r < 256) ⌝ }
+{
+    x as u32
+}
+
+// The sum of the lengths, which has 32 bits.
+pub(crate) fn total(lengths: &[u8]) -> u32
     requires { ⌜ length (now lengths) < 65536 ⌝ }
     ensures { λ r. ⌜ (r ≡ sum (now (lengths .entry))) × (r ≤ 255 * length (now (lengths .entry))) ⌝ }
 {
-    let mut sum = 0;
+    let mut bytes: u32 = 0;
     let mut i = 0;
     while i < lengths.len() {
-        sum += wide(lengths[i]);
+        bytes += wide(lengths[i]);
         i += 1;
     }
-    sum
+    bytes
 }
 
-// Is every length within the limits? A byte can't be above the greatest.
+// A byte can't be above the greatest length.
+fn and_some(ok: bool, length: u8) -> bool
+    ensures { λ r. ⌜ r ≡ also ok (okLength MostEntryLength length) ⌝ }
+{
+    let some = 1 <= length;
+    ok & some
+}
+
+// Is every length within the limits?
 pub(crate) fn lengths_ok(lengths: &[u8]) -> bool
     ensures { λ r. ⌜ r ≡ every (okLength MostEntryLength) (now (lengths .entry)) ⌝ }
 {
+    let mut ok = true;
     let mut i = 0;
     while i < lengths.len() {
-        if lengths[i] < 1 {
-            return false;
-        }
+        ok = and_some(ok, lengths[i]);
         i += 1;
     }
-    true
+    ok
+}
+
+fn and_zero(ok: bool, byte: u8) -> bool
+    ensures { λ r. ⌜ r ≡ also ok (isZero byte) ⌝ }
+{
+    let zero = byte == 0;
+    ok & zero
 }
 
 // Is every byte zero?
 pub(crate) fn zeros(s: &[u8]) -> bool
     ensures { λ r. ⌜ r ≡ every isZero (now (s .entry)) ⌝ }
 {
+    let mut ok = true;
     let mut i = 0;
     while i < s.len() {
-        if s[i] != 0 {
-            return false;
-        }
+        ok = and_zero(ok, s[i]);
         i += 1;
     }
-    true
+    ok
 }

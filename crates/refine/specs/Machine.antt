@@ -1,4 +1,8 @@
--- The machine: its view, question 2 and each step against source 000.
+-- The machine (source 000). First the view, which a reader must believe; then what is shown of each kind.
+pub mod LoadingView
+pub mod LoadingSuperblock
+pub mod LoadingPieces
+pub mod LoadingOther
 pub mod ReadyView
 pub mod ReadyCases
 pub mod ReadyForm

@@ -1,2 +1,1 @@
-// No code: the view from the machine's records and lent memory to the states of the five files, and that the code agrees with their
-// predicates, in specs/.
+// No code: one view from the code's records and lent memory to the states of the sources, and the agreement of each step with them, in specs/.

@@ -1,25 +1,22 @@
 -- Document 01's departures from the sources. An amended predicate `Foo⁺` stands for the source's `Foo` with one clause more; the source's own
--- is its field `source`; a named predicate says what the clause takes away, and `foo-departs` that this is all. Ask again and a damaged
+-- is its field `source`; a named predicate says what the clause takes away, and Laws/Departs shows that this is all. Ask again and a damaged
 -- journal answer are new. A journal answer carries no `which`. There is no fallback to a single superblock to take away: it is a comment in
 -- 000. A crash takes what it leaves open from a picture. `Allowed` at the end is the relation that demand 2 speaks of.
 use Prim.Native.Nat.{ℕ, _<_}
-use mathlib.Core.Bool.{Bool, true, false, not, Bool-discrete}
-use mathlib.Core.Path.{_≡_, refl, sym, _∙_}
-use mathlib.Core.List.{List, List-discrete}
+use mathlib.Core.Bool.{Bool, true, not}
+use mathlib.Core.Path.{_≡_}
+use mathlib.Core.List.{List}
 use mathlib.Core.Option.{Option, none, some}
 use mathlib.Core.Option
-use mathlib.Core.HLevel.{Discrete}
-use mathlib.Core.Logic.{_⊎_, inl, inr}
-use native.Mathlib.Decide.{ℕ-discrete}
 use lib.ListN.{length, getD}
 use Rattle.layout.specs.declared.geometry.Geometry.{Geometry}
 use Rattle.interval.specs.Journal.{JournalBlock}
-use Rattle.laws.specs.Sets.{Two, at, put}
+use Rattle.laws.specs.Sets.{at, put}
 use Rattle.codec.specs.Codec.{JournalEntry, JournalRange, Codec}
 use Rattle.source.specs.JournalDisk as D
 use Rattle.source.specs.JournalDisk.{ReqId, DiskOp, ReqReadSuperblockOp, ReqReadJournalOp, ReqWriteSuperblockOp, ReqWriteJournalOp, RespReadSuperblockOp, RespReadJournalOp, RespWriteSuperblockOp, RespWriteJournalOp, NoDiskOp, JournalUntouched}
 use Rattle.source.specs.JournalCache as M
-use Rattle.source.specs.JournalCache.{Variables, Ready, LoadingOther, LoadingSuperblock, ReadyVariables, LoadingOtherVariables, LoadingSuperblockVariables, isReady, isLoadingOther, isLoadingSuperblock, SuperblockUnfinished, SuperblockCorruption, to-journalReads, to-superblocks, toWrite, WriteBackJournalReq, PageInJournalResp, PageInSuperblockReq, FinishLoadingOtherPhase, NoOp}
+use Rattle.source.specs.JournalCache.{Variables, LoadingOther, LoadingSuperblock, LoadingOtherVariables, LoadingSuperblockVariables, isReady, isLoadingOther, isLoadingSuperblock, SuperblockUnfinished, SuperblockCorruption, to-journalReads, to-superblocks, toWrite, WriteBackJournalReq, PageInJournalResp, PageInSuperblockReq, FinishLoadingOtherPhase, NoOp}
 use Rattle.source.specs.JournalCache.{Step, WriteBackJournalReqStep, WriteBackJournalRespStep, WriteBackSuperblockReq-AdvanceLog-Step, WriteBackSuperblockReq-AdvanceLocation-Step, WriteBackSuperblockRespStep, PageInJournalReqStep, PageInJournalRespStep, PageInSuperblockReqStep, PageInSuperblockRespStep, FinishLoadingSuperblockPhaseStep, FinishLoadingOtherPhaseStep, FreezeStep, ReceiveFrozenLocStep, AdvanceStep, ReplayStep, PushSyncReqStep, PopSyncReqStep, NoOpStep}
 use Rattle.source.specs.JournalSystem as Y
 use Rattle.source.specs.Limits.{Limits}
@@ -38,27 +35,6 @@ pub record WriteBackJournalReq⁺ (g : Geometry) (C : Codec) (s s′ : Variables
 abbrev pub OtherRange : Codec → Variables → JournalRange → Type 0
 OtherRange C s jr = isReady s (λ s. OneRange C (toWrite s) jr → ⊥)
 
-range-discrete : Discrete JournalRange
-range-discrete = List-discrete (List-discrete ℕ-discrete)
-
-one-range? : (C : Codec) (es : List JournalEntry) (jr : JournalRange) → Dec (OneRange C es jr)
-one-range? C es jr = go (Bool-discrete (C .good es) true) (range-discrete jr (C .encode es))
-  where
-    go : Dec (C .good es ≡ true) → Dec (jr ≡ C .encode es) → Dec (OneRange C es jr)
-    go (yes p) (yes q) = yes (record { good = p; range-is = q })
-    go (yes p) (no q) = no (λ o. q (o .range-is))
-    go (no p) q = no (λ o. p (o .good))
-
-pub writeBackJournalReq-departs : (g : Geometry) (C : Codec) (s s′ : Variables) (dop : DiskOp) (jr : JournalRange)
-    → WriteBackJournalReq g C s s′ dop jr → WriteBackJournalReq⁺ g C s s′ dop jr ⊎ OtherRange C s jr
-writeBackJournalReq-departs g C (Ready s) s′ dop jr h = go (one-range? C (toWrite s) jr)
-  where
-    go : Dec (OneRange C (toWrite s) jr) → WriteBackJournalReq⁺ g C (Ready s) s′ dop jr ⊎ (OneRange C (toWrite s) jr → ⊥)
-    go (yes p) = inl (record { source = h; one-range = p })
-    go (no p) = inr p
-writeBackJournalReq-departs g C (LoadingOther s) s′ dop jr h = absurd h
-writeBackJournalReq-departs g C (LoadingSuperblock s) s′ dop jr h = absurd h
-
 -- "After FinishLoadingOtherPhase frozenJournalPosition is 0."
 
 pub record FinishLoadingOtherPhase⁺ (g : Geometry) (C : Codec) (s s′ : Variables) (dop : DiskOp) : Type 0 where
@@ -67,18 +43,6 @@ pub record FinishLoadingOtherPhase⁺ (g : Geometry) (C : Codec) (s s′ : Varia
 
 abbrev pub OtherPosition : Variables → Type 0
 OtherPosition s′ = isReady s′ (λ s′. s′ .frozenJournalPosition ≡ 0 → ⊥)
-
-pub finishLoadingOtherPhase-departs : (g : Geometry) (C : Codec) (s s′ : Variables) (dop : DiskOp)
-    → FinishLoadingOtherPhase g C s s′ dop → FinishLoadingOtherPhase⁺ g C s s′ dop ⊎ OtherPosition s′
-finishLoadingOtherPhase-departs g C (LoadingOther s) (Ready s′) dop h = go (ℕ-discrete (s′ .frozenJournalPosition) 0)
-  where
-    go : Dec (s′ .frozenJournalPosition ≡ 0) → FinishLoadingOtherPhase⁺ g C (LoadingOther s) (Ready s′) dop ⊎ (s′ .frozenJournalPosition ≡ 0 → ⊥)
-    go (yes p) = inl (record { source = h; position-is = p })
-    go (no p) = inr p
-finishLoadingOtherPhase-departs g C (LoadingOther s) (LoadingOther s′) dop h = absurd h
-finishLoadingOtherPhase-departs g C (LoadingOther s) (LoadingSuperblock s′) dop h = absurd h
-finishLoadingOtherPhase-departs g C (Ready s) s′ dop h = absurd h
-finishLoadingOtherPhase-departs g C (LoadingSuperblock s) s′ dop h = absurd h
 
 -- "An awaited answer is always taken. An answer nobody awaits, in any kind of state, is accepted and alters nothing (NoOp)." The source
 -- lets NoOp take any answer but an awaited write's; so what is taken away is that NoOp takes an awaited read's.
@@ -98,58 +62,6 @@ pub record NoOp⁺ (s s′ : Variables) (dop : DiskOp) : Type 0 where
   pub source : NoOp s s′ dop
   pub unawaited : Awaited s dop → ⊥
 
-on-ready : (s : Variables) (P : ReadyVariables → Type 0) → ((r : ReadyVariables) → Dec (P r)) → Dec (isReady s P)
-on-ready (Ready s) P f = f s
-on-ready (LoadingOther s) P f = no (λ x. x)
-on-ready (LoadingSuperblock s) P f = no (λ x. x)
-
-on-other : (s : Variables) (P : LoadingOtherVariables → Type 0) → ((r : LoadingOtherVariables) → Dec (P r)) → Dec (isLoadingOther s P)
-on-other (Ready s) P f = no (λ x. x)
-on-other (LoadingOther s) P f = f s
-on-other (LoadingSuperblock s) P f = no (λ x. x)
-
-on-superblock : (s : Variables) (P : LoadingSuperblockVariables → Type 0) → ((r : LoadingSuperblockVariables) → Dec (P r)) → Dec (isLoadingSuperblock s P)
-on-superblock (Ready s) P f = no (λ x. x)
-on-superblock (LoadingOther s) P f = no (λ x. x)
-on-superblock (LoadingSuperblock s) P f = f s
-
-id? : (o : Option ReqId) (id : ReqId) → Dec (o ≡ some id)
-id? o id = Option.discrete ℕ-discrete o (some id)
-
--- which place of a pair holds the id
-place? : (t : Two (Option ReqId)) (id : ReqId) → Dec ((which : Bool) × (at t which ≡ some id))
-place? t id = go (id? (t .first) id) (id? (t .second) id)
-  where
-    neither : (t .first ≡ some id → ⊥) → (t .second ≡ some id → ⊥) → (which : Bool) → at t which ≡ some id → ⊥
-    neither p q false = p
-    neither p q true = q
-
-    go : Dec (t .first ≡ some id) → Dec (t .second ≡ some id) → Dec ((which : Bool) × (at t which ≡ some id))
-    go (yes p) q = yes (false, p)
-    go (no p) (yes q) = yes (true, q)
-    go (no p) (no q) = no (λ h. neither p q (h .0) (h .1))
-
-pub awaited? : (s : Variables) (dop : DiskOp) → Dec (Awaited s dop)
-awaited? s (RespReadSuperblockOp id which superblock) =
-    on-superblock s (λ s. at (s .outstandingSuperblockReads) which ≡ some id) (λ s. id? (at (s .outstandingSuperblockReads) which) id)
-awaited? s (RespReadJournalOp id journal) =
-    on-other s (λ s. (which : Bool) × (at (s .journalReads) which ≡ some id)) (λ s. place? (s .journalReads) id)
-awaited? s (RespWriteSuperblockOp id which) = on-ready s (λ s. s .superblockWrite ≡ some id) (λ s. id? (s .superblockWrite) id)
-awaited? s (RespWriteJournalOp id) =
-    on-ready s (λ s. s .outstandingJournalWrites id ≡ true) (λ s. Bool-discrete (s .outstandingJournalWrites id) true)
-awaited? s (ReqReadSuperblockOp id which) = no (λ x. x)
-awaited? s (ReqReadJournalOp id interval) = no (λ x. x)
-awaited? s (ReqWriteSuperblockOp id which req) = no (λ x. x)
-awaited? s (ReqWriteJournalOp id1 id2 req) = no (λ x. x)
-awaited? s NoDiskOp = no (λ x. x)
-
-pub noOp-departs : (s s′ : Variables) (dop : DiskOp) → NoOp s s′ dop → NoOp⁺ s s′ dop ⊎ Awaited s dop
-noOp-departs s s′ dop h = go (awaited? s dop)
-  where
-    go : Dec (Awaited s dop) → NoOp⁺ s s′ dop ⊎ Awaited s dop
-    go (yes p) = inr p
-    go (no p) = inl (record { source = h; unawaited = p })
-
 -- "The machine too refuses (5) a superblock read under the other slot's waiting id."
 
 abbrev pub OtherSlotWaits : Variables → DiskOp → Bool → Type 0
@@ -159,25 +71,6 @@ OtherSlotWaits s dop which =
 pub record PageInSuperblockReq⁺ (s s′ : Variables) (dop : DiskOp) (which : Bool) : Type 0 where
   pub source : PageInSuperblockReq s s′ dop which
   pub other-slot : OtherSlotWaits s dop which → ⊥
-
-pub pageInSuperblockReq-departs : (s s′ : Variables) (dop : DiskOp) (which : Bool)
-    → PageInSuperblockReq s s′ dop which → PageInSuperblockReq⁺ s s′ dop which ⊎ OtherSlotWaits s dop which
-pageInSuperblockReq-departs (LoadingSuperblock s) s′ dop which h = go (id? (at (s .outstandingSuperblockReads) (not which)) (h .id))
-  where
-    same-id : (a b : ReqId) → ReqReadSuperblockOp a which ≡ ReqReadSuperblockOp b which → a ≡ b
-    same-id a b e = cc
-
-    go : Dec (at (s .outstandingSuperblockReads) (not which) ≡ some (h .id))
-        → PageInSuperblockReq⁺ (LoadingSuperblock s) s′ dop which ⊎ OtherSlotWaits (LoadingSuperblock s) dop which
-    go (yes p) = inr (h .id, h .op, p)
-    go (no p) =
-        inl
-        (record {
-          source = h;
-          other-slot = λ w. p (w .2 ∙ (λ i. some (same-id (w .0) (h .id) (sym (w .1) ∙ h .op) i)));
-        })
-pageInSuperblockReq-departs (Ready s) s′ dop which h = absurd h
-pageInSuperblockReq-departs (LoadingOther s) s′ dop which h = absurd h
 
 -- "A journal answer carries no which: the piece whose read has its id takes it." Nothing is taken away.
 
@@ -238,27 +131,6 @@ NextStep⁺ g C s s′ dop (Source step) = SourceStep⁺ g C s s′ dop step
 NextStep⁺ g C s s′ dop DamagedJournalStep = DamagedJournal s s′ dop
 NextStep⁺ g C s s′ dop (AskAgainStep which) = AskAgain s s′ dop which
 
--- every step of the source is the source's
-pub source-next : (g : Geometry) (C : Codec) (s s′ : Variables) (dop : DiskOp) (step : Step) → SourceStep⁺ g C s s′ dop step → M.Next g C s s′ dop
-source-next g C s s′ dop (WriteBackJournalReqStep jr) h = (WriteBackJournalReqStep jr, h .source)
-source-next g C s s′ dop WriteBackJournalRespStep h = (WriteBackJournalRespStep, h)
-source-next g C s s′ dop WriteBackSuperblockReq-AdvanceLog-Step h = (WriteBackSuperblockReq-AdvanceLog-Step, h)
-source-next g C s s′ dop WriteBackSuperblockReq-AdvanceLocation-Step h = (WriteBackSuperblockReq-AdvanceLocation-Step, h)
-source-next g C s s′ dop WriteBackSuperblockRespStep h = (WriteBackSuperblockRespStep, h)
-source-next g C s s′ dop (PageInJournalReqStep which) h = (PageInJournalReqStep which, h)
-source-next g C s s′ dop (PageInJournalRespStep which) h = (PageInJournalRespStep (h .0), h .1)
-source-next g C s s′ dop (PageInSuperblockReqStep which) h = (PageInSuperblockReqStep which, h .source)
-source-next g C s s′ dop (PageInSuperblockRespStep which) h = (PageInSuperblockRespStep which, h)
-source-next g C s s′ dop FinishLoadingSuperblockPhaseStep h = (FinishLoadingSuperblockPhaseStep, h)
-source-next g C s s′ dop FinishLoadingOtherPhaseStep h = (FinishLoadingOtherPhaseStep, h .source)
-source-next g C s s′ dop FreezeStep h = (FreezeStep, h)
-source-next g C s s′ dop (ReceiveFrozenLocStep loc) h = (ReceiveFrozenLocStep loc, h)
-source-next g C s s′ dop (AdvanceStep new-je) h = (AdvanceStep new-je, h)
-source-next g C s s′ dop (ReplayStep replayed-je) h = (ReplayStep replayed-je, h)
-source-next g C s s′ dop (PushSyncReqStep id) h = (PushSyncReqStep id, h)
-source-next g C s s′ dop (PopSyncReqStep id) h = (PopSyncReqStep id, h)
-source-next g C s s′ dop NoOpStep h = (NoOpStep, h .source)
-
 -- what the departures take away of the machine's steps, step by step; of every other step nothing
 abbrev pub TakenAway : Codec → Variables → Variables → DiskOp → Step → Type 0
 TakenAway C s s′ dop (WriteBackJournalReqStep jr) = OtherRange C s jr
@@ -280,52 +152,6 @@ TakenAway C s s′ dop (PushSyncReqStep id) = ⊥
 TakenAway C s s′ dop (PopSyncReqStep id) = ⊥
 TakenAway C s s′ dop NoOpStep = Awaited s dop
 
-pub next-step-departs : (g : Geometry) (C : Codec) (s s′ : Variables) (dop : DiskOp) (step : Step)
-    → M.NextStep g C s s′ dop step → SourceStep⁺ g C s s′ dop step ⊎ TakenAway C s s′ dop step
-next-step-departs g C s s′ dop (WriteBackJournalReqStep jr) h = writeBackJournalReq-departs g C s s′ dop jr h
-next-step-departs g C s s′ dop WriteBackJournalRespStep h = inl h
-next-step-departs g C s s′ dop WriteBackSuperblockReq-AdvanceLog-Step h = inl h
-next-step-departs g C s s′ dop WriteBackSuperblockReq-AdvanceLocation-Step h = inl h
-next-step-departs g C s s′ dop WriteBackSuperblockRespStep h = inl h
-next-step-departs g C s s′ dop (PageInJournalReqStep which) h = inl h
-next-step-departs g C s s′ dop (PageInJournalRespStep which) h = inl (which, h)
-next-step-departs g C s s′ dop (PageInSuperblockReqStep which) h = pageInSuperblockReq-departs s s′ dop which h
-next-step-departs g C s s′ dop (PageInSuperblockRespStep which) h = inl h
-next-step-departs g C s s′ dop FinishLoadingSuperblockPhaseStep h = inl h
-next-step-departs g C s s′ dop FinishLoadingOtherPhaseStep h = finishLoadingOtherPhase-departs g C s s′ dop h
-next-step-departs g C s s′ dop FreezeStep h = inl h
-next-step-departs g C s s′ dop (ReceiveFrozenLocStep loc) h = inl h
-next-step-departs g C s s′ dop (AdvanceStep new-je) h = inl h
-next-step-departs g C s s′ dop (ReplayStep replayed-je) h = inl h
-next-step-departs g C s s′ dop (PushSyncReqStep id) h = inl h
-next-step-departs g C s s′ dop (PopSyncReqStep id) h = inl h
-next-step-departs g C s s′ dop NoOpStep h = noOp-departs s s′ dop h
-
--- and what is taken away is no step any more
-pub taken-apart : (g : Geometry) (C : Codec) (s s′ : Variables) (dop : DiskOp) (step : Step) → SourceStep⁺ g C s s′ dop step → TakenAway C s s′ dop step → ⊥
-taken-apart g C (Ready s) s′ dop (WriteBackJournalReqStep jr) h t = t (h .one-range)
-taken-apart g C (LoadingOther s) s′ dop (WriteBackJournalReqStep jr) h t = t
-taken-apart g C (LoadingSuperblock s) s′ dop (WriteBackJournalReqStep jr) h t = t
-taken-apart g C s s′ dop WriteBackJournalRespStep h t = t
-taken-apart g C s s′ dop WriteBackSuperblockReq-AdvanceLog-Step h t = t
-taken-apart g C s s′ dop WriteBackSuperblockReq-AdvanceLocation-Step h t = t
-taken-apart g C s s′ dop WriteBackSuperblockRespStep h t = t
-taken-apart g C s s′ dop (PageInJournalReqStep which) h t = t
-taken-apart g C s s′ dop (PageInJournalRespStep which) h t = t
-taken-apart g C s s′ dop (PageInSuperblockReqStep which) h t = h .other-slot t
-taken-apart g C s s′ dop (PageInSuperblockRespStep which) h t = t
-taken-apart g C s s′ dop FinishLoadingSuperblockPhaseStep h t = t
-taken-apart g C s (Ready s′) dop FinishLoadingOtherPhaseStep h t = t (h .position-is)
-taken-apart g C s (LoadingOther s′) dop FinishLoadingOtherPhaseStep h t = t
-taken-apart g C s (LoadingSuperblock s′) dop FinishLoadingOtherPhaseStep h t = t
-taken-apart g C s s′ dop FreezeStep h t = t
-taken-apart g C s s′ dop (ReceiveFrozenLocStep loc) h t = t
-taken-apart g C s s′ dop (AdvanceStep new-je) h t = t
-taken-apart g C s s′ dop (ReplayStep replayed-je) h t = t
-taken-apart g C s s′ dop (PushSyncReqStep id) h t = t
-taken-apart g C s s′ dop (PopSyncReqStep id) h t = t
-taken-apart g C s s′ dop NoOpStep h t = h .unawaited t
-
 -- "Blocks and marks covered by a journal write in flight are then taken from a lent picture, the others kept." Nothing is taken away: the
 -- journal that a crash of the source leaves can be the picture.
 
@@ -333,9 +159,6 @@ pub record DiskCrash⁺ (g : Geometry) (s s′ : D.Variables) (picture : List (O
   pub source : D.Crash g s s′
   pub from-picture : (i : ℕ) → i < length (s .journal) → (JournalUntouched g i (s .reqWriteJournals) → ⊥)
       → getD (s′ .journal) i none ≡ getD picture i none
-
-pub diskCrash-pictured : (g : Geometry) (s s′ : D.Variables) → D.Crash g s s′ → DiskCrash⁺ g s s′ (s′ .journal)
-diskCrash-pictured g s s′ h = record { source = h; from-picture = λ i l t. refl }
 
 -- The system's steps
 
@@ -362,44 +185,8 @@ pub record Allowed (g : Geometry) (C : Codec) (L : Limits) (s s′ : Y.Variables
   pub meets : SystemMeets g L s
   pub step : SystemStep⁺ g C s s′ event
 
--- the events that are new
-abbrev pub New : Event → Type 0
-New (MachineStep dop (Source step)) = ⊥
-New (MachineStep dop DamagedJournalStep) = Unit {0}
-New (MachineStep dop (AskAgainStep which)) = Unit {0}
-New (DiskInternalStep step) = ⊥
-New (CrashStep picture) = ⊥
-
--- every event that is not new is a step of the source
-pub allowed-next : (g : Geometry) (C : Codec) (L : Limits) (s s′ : Y.Variables) (event : Event) → Allowed g C L s s′ event → New event ⊎ Y.Next g C s s′
-allowed-next g C L s s′ (MachineStep dop (Source step)) h =
-    let n = source-next g C (s .machine) (s′ .machine) dop step (h .step .machine) in
-    inr (Y.Step.MachineStep dop (n .0), record { machine = n .1; disk = h .step .disk })
-allowed-next g C L s s′ (MachineStep dop DamagedJournalStep) h = inl tt
-allowed-next g C L s s′ (MachineStep dop (AskAgainStep which)) h = inl tt
-allowed-next g C L s s′ (DiskInternalStep step) h = inr (Y.Step.DiskInternalStep step, h .step)
-allowed-next g C L s s′ (CrashStep picture) h = inr (Y.Step.CrashStep, record { machine = h .step .machine; disk = h .step .disk .source })
-
--- every step of the source from a state that meets question 2 is allowed, but for what the departures take away
+-- what the departures take away of the system's steps
 abbrev pub SystemTakenAway : Codec → Y.Variables → Y.Variables → Y.Step → Type 0
 SystemTakenAway C s s′ (Y.Step.MachineStep dop machineStep) = TakenAway C (s .machine) (s′ .machine) dop machineStep
 SystemTakenAway C s s′ (Y.Step.DiskInternalStep step) = ⊥
 SystemTakenAway C s s′ Y.Step.CrashStep = ⊥
-
--- the event of a step of the source; a crash has its own journal for the picture
-abbrev pub eventOf : Y.Variables → Y.Step → Event
-eventOf s′ (Y.Step.MachineStep dop machineStep) = MachineStep dop (Source machineStep)
-eventOf s′ (Y.Step.DiskInternalStep step) = DiskInternalStep step
-eventOf s′ Y.Step.CrashStep = CrashStep (s′ .disk .journal)
-
-pub next-allowed : (g : Geometry) (C : Codec) (L : Limits) (s s′ : Y.Variables) (step : Y.Step) → SystemMeets g L s → Y.NextStep g C s s′ step
-    → Allowed g C L s s′ (eventOf s′ step) ⊎ SystemTakenAway C s s′ step
-next-allowed g C L s s′ (Y.Step.MachineStep dop machineStep) m h = go (next-step-departs g C (s .machine) (s′ .machine) dop machineStep (h .machine))
-  where
-    go : SourceStep⁺ g C (s .machine) (s′ .machine) dop machineStep ⊎ TakenAway C (s .machine) (s′ .machine) dop machineStep
-        → Allowed g C L s s′ (MachineStep dop (Source machineStep)) ⊎ TakenAway C (s .machine) (s′ .machine) dop machineStep
-    go (inl x) = inl (record { meets = m; step = record { machine = x; disk = h .disk } })
-    go (inr x) = inr x
-next-allowed g C L s s′ (Y.Step.DiskInternalStep step) m h = inl (record { meets = m; step = h })
-next-allowed g C L s s′ Y.Step.CrashStep m h =
-    inl (record { meets = m; step = record { machine = h .machine; disk = diskCrash-pictured g (s .disk) (s′ .disk) (h .disk) } })

@@ -118,12 +118,15 @@ pub record WriteBackJournalRespClauses (s : ReadyVariables) (s′ : Variables) (
 abbrev pub WriteBackJournalResp : Variables → Variables → DiskOp → Type 0
 WriteBackJournalResp s s′ dop = isReady s (λ s. WriteBackJournalRespClauses s s′ dop)
 
--- two clauses that both commits have: which slot is written, and that no journal write is outstanding
+-- what both commits have: which slot is written, that no journal write is outstanding, and what they set
 abbrev pub commitSlot : ReadyVariables → Bool
 commitSlot s = not (s .whichSuperblock)
 
 abbrev pub NoneOutstanding : ReadyVariables → Type 0
 NoneOutstanding s = s .outstandingJournalWrites ≡ no-ids
+
+abbrev pub committing : CommitStatus → ReqId → Superblock → ReadyVariables → ReadyVariables
+committing status id new s = to-newSuperblock (some new) (to-superblockWrite (some id) (to-commitStatus status s))
 
 -- `newSuperblock` of the next predicate
 abbrev pub advancedLog : ReadyVariables → Superblock
@@ -146,10 +149,7 @@ pub record WriteBackSuperblockReq-AdvanceLogClauses (g : Geometry) (s : ReadyVar
   pub which-is : which ≡ commitSlot s
   pub written-in : s .writtenJournalLen ≤ NumJournalBlocks g
   pub superblock-is : req .superblock ≡ advancedLog s
-  pub next : s′ ≡ Ready
-      (to-newSuperblock (some (advancedLog s))
-      (to-superblockWrite (some id)
-      (to-commitStatus CommitAdvanceLog s)))
+  pub next : s′ ≡ Ready (committing CommitAdvanceLog id (advancedLog s) s)
 
 abbrev pub WriteBackSuperblockReq-AdvanceLog : Geometry → Variables → Variables → DiskOp → Type 0
 WriteBackSuperblockReq-AdvanceLog g s s′ dop = isReady s (λ s. WriteBackSuperblockReq-AdvanceLogClauses g s s′ dop)
@@ -179,10 +179,7 @@ pub record WriteBackSuperblockReq-AdvanceLocationClauses (g : Geometry) (s : Rea
   pub position-in : s .frozenJournalPosition ≤ s .writtenJournalLen
   pub written-in : s .writtenJournalLen ≤ NumJournalBlocks g
   pub superblock-is : req .superblock ≡ advancedLocation g s loc
-  pub next : s′ ≡ Ready
-      (to-newSuperblock (some (advancedLocation g s loc))
-      (to-superblockWrite (some id)
-      (to-commitStatus CommitAdvanceLocation s)))
+  pub next : s′ ≡ Ready (committing CommitAdvanceLocation id (advancedLocation g s loc) s)
 
 abbrev pub WriteBackSuperblockReq-AdvanceLocation : Geometry → Variables → Variables → DiskOp → Type 0
 WriteBackSuperblockReq-AdvanceLocation g s s′ dop = isReady s (λ s. WriteBackSuperblockReq-AdvanceLocationClauses g s s′ dop)

@@ -2,23 +2,21 @@
 -- `2` are one predicate over the slot. A function with `requires` takes its proof; a predicate that a function decides by is beside its test.
 use Prim.Native.Nat.{ℕ, _-_}
 use mathlib.Core.Bool.{Bool, true, false, cond, not}
-use mathlib.Core.Path.{_≡_, refl, ap}
+use mathlib.Core.Path.{_≡_, sym, subst}
 use mathlib.Core.List.{List, [], _++_}
-use mathlib.Core.Option.{Option, none, some, Option·some-injective, Option·none-ne-some}
+use mathlib.Core.Option.{Option, none, some}
 use lib.Dec.{eqb}
-use borrow.Author.Tests.{eqb-true, eq-eqb}
-use Rattle.laws.specs.Choice.{also, also-left, also-right, also-both, false-true}
+use Rattle.laws.specs.Choice.{also, split-eq}
 use Rattle.layout.specs.declared.geometry.Geometry.{Geometry}
 use Rattle.layout.specs.declared.location.Location.{Location}
 use Rattle.layout.specs.Location.{sameLocation}
-use Rattle.layout.specs.Laws.{same-location, location-same}
 use Rattle.layout.specs.Journal.{JournalPosAdd}
 use Rattle.interval.specs.declared.interval.JournalInterval.{JournalInterval}
 use Rattle.interval.specs.Interval.{interval}
 use Rattle.interval.specs.Facts.{ValidJournalInterval}
 use Rattle.superblock.specs.declared.superblock.Superblock.{Superblock}
-use Rattle.superblock.specs.Superblock.{SelectSuperblockIndex, SelectSuperblock}
-use Rattle.superblock.specs.Laws.{WFSuperblock}
+use Rattle.superblock.specs.Superblock.{IncrementSuperblockCounter, SelectSuperblock}
+use Rattle.superblock.specs.Laws.{WFSuperblock, selects-second, selects-first, selected-second, selected-first}
 use Rattle.laws.specs.Sets.{Map, each, at}
 use Rattle.codec.specs.Codec.{JournalEntry, Codec, Disk-HasJournal, Disk-Journal}
 use Rattle.source.specs.JournalDisk as D
@@ -43,13 +41,14 @@ pub record DiskHasSuperblock (g : Geometry) (disk : D.Variables) : Type 0 where
 abbrev pub SuperblockOfDisk : (g : Geometry) (disk : D.Variables) → DiskHasSuperblock g disk → Superblock
 SuperblockOfDisk g disk h = SelectSuperblock (h .first .value) (h .second .value)
 
+pub selected-wf : (g : Geometry) (superblock1 superblock2 : Superblock) → WFSuperblock g superblock1 → WFSuperblock g superblock2 → WFSuperblock g (SelectSuperblock superblock1 superblock2)
+selected-wf g superblock1 superblock2 p q =
+    split-eq (superblock2 .counter) (IncrementSuperblockCounter (superblock1 .counter))
+    (λ e. subst (WFSuperblock g) (sym (selected-second superblock1 superblock2 (selects-second superblock1 superblock2 e))) q)
+    (λ n. subst (WFSuperblock g) (sym (selected-first superblock1 superblock2 (selects-first superblock1 superblock2 n))) p)
+
 pub superblock-of-disk-wf : (g : Geometry) (disk : D.Variables) (h : DiskHasSuperblock g disk) → WFSuperblock g (SuperblockOfDisk g disk h)
-unfolding SelectSuperblock
-superblock-of-disk-wf g disk h = go (eqb (SelectSuperblockIndex (h .first .value) (h .second .value)) 1)
-  where
-    go : (b : Bool) → WFSuperblock g (cond b (h .second .value) (h .first .value))
-    go true = h .second .wf
-    go false = h .first .wf
+superblock-of-disk-wf g disk h = selected-wf g (h .first .value) (h .second .value) (h .first .wf) (h .second .wf)
 
 abbrev pub WFDisk : Geometry → D.Variables → Type 0
 WFDisk g disk = DiskHasSuperblock g disk
@@ -215,78 +214,3 @@ NextStep g C s s′ CrashStep = Crash g s s′
 
 abbrev pub Next : Geometry → Codec → Variables → Variables → Type 0
 Next g C s s′ = (step : Step) × NextStep g C s s′ step
-
--- the test and the predicate agree
-pub superblock-same : (a b : Superblock) → sameSuperblock a b ≡ true → a ≡ b
-unfolding sameSuperblock
-superblock-same a b e =
-    let e1 = also-right _ _ e in
-    let e2 = also-right _ _ e1 in
-    λ i.
-    record {
-      counter = eqb-true (a .counter) (b .counter) (also-left _ _ e) i;
-      journalStart = eqb-true (a .journalStart) (b .journalStart) (also-left _ _ e1) i;
-      journalLen = eqb-true (a .journalLen) (b .journalLen) (also-left _ _ e2) i;
-      indirectionTableLoc = same-location (a .indirectionTableLoc) (b .indirectionTableLoc) (also-right _ _ e2) i;
-    }
-
-pub same-superblock : (a b : Superblock) → a ≡ b → sameSuperblock a b ≡ true
-unfolding sameSuperblock
-same-superblock a b e =
-    also-both _ _ (eq-eqb (a .counter) (b .counter) (ap (λ (v : Superblock). v .counter) e))
-    (also-both _ _ (eq-eqb (a .journalStart) (b .journalStart) (ap (λ (v : Superblock). v .journalStart) e))
-    (also-both _ _ (eq-eqb (a .journalLen) (b .journalLen) (ap (λ (v : Superblock). v .journalLen) e))
-    (location-same (a .indirectionTableLoc) (b .indirectionTableLoc) (ap (λ (v : Superblock). v .indirectionTableLoc) e))))
-
-holds-new : (slot o : Option Superblock) → holdsNew slot o ≡ true → (new : Superblock) × (o ≡ some new) × (slot ≡ o)
-holds-new none none e = false-true e
-holds-new (some v) none e = false-true e
-holds-new none (some new) e = false-true e
-holds-new (some v) (some new) e = (new, refl, ap (λ (x : Superblock). some x) (superblock-same v new e))
-
-new-holds : (slot o : Option Superblock) (new : Superblock) → o ≡ some new → slot ≡ o → holdsNew slot o ≡ true
-new-holds none none new p q = absurd (Option·none-ne-some new p)
-new-holds (some v) none new p q = absurd (Option·none-ne-some new p)
-new-holds none (some w) new p q = absurd (Option·none-ne-some w q)
-new-holds (some v) (some w) new p q = same-superblock v w (Option·some-injective v w q)
-
-pub update-occurred : (s : Variables) → hasUpdateOccurredUnacked s ≡ true → HasUpdateOccurredUnacked s
-update-occurred s = go (s .machine)
-  where
-    go : (m : M.Variables) → onReady m (λ r. holdsNew (at (s .disk .superblocks) (not (r .whichSuperblock))) (r .newSuperblock)) false ≡ true
-        → M.isReady m (λ r. HasUpdateOccurredUnackedClauses r (s .disk))
-    go (M.Variables.Ready r) e =
-        let h = holds-new (at (s .disk .superblocks) (not (r .whichSuperblock))) (r .newSuperblock) e in
-        record { new = h .0; new-is = h .1; landed = h .2 }
-    go (M.Variables.LoadingOther r) e = false-true e
-    go (M.Variables.LoadingSuperblock r) e = false-true e
-
-pub occurred-update : (s : Variables) → HasUpdateOccurredUnacked s → hasUpdateOccurredUnacked s ≡ true
-occurred-update s = go (s .machine)
-  where
-    go : (m : M.Variables) → M.isReady m (λ r. HasUpdateOccurredUnackedClauses r (s .disk))
-        → onReady m (λ r. holdsNew (at (s .disk .superblocks) (not (r .whichSuperblock))) (r .newSuperblock)) false ≡ true
-    go (M.Variables.Ready r) h = new-holds (at (s .disk .superblocks) (not (r .whichSuperblock))) (r .newSuperblock) (h .new) (h .new-is) (h .landed)
-    go (M.Variables.LoadingOther r) h = absurd h
-    go (M.Variables.LoadingSuperblock r) h = absurd h
-
-is-location : (c : M.CommitStatus) → isAdvanceLocation c ≡ true → c ≡ M.CommitStatus.CommitAdvanceLocation
-is-location M.CommitStatus.CommitNone e = false-true e
-is-location M.CommitStatus.CommitAdvanceLog e = false-true e
-is-location M.CommitStatus.CommitAdvanceLocation e = refl
-
-pub location-update-occurred : (s : Variables) → hasLocationUpdateOccurredUnacked s ≡ true → HasLocationUpdateOccurredUnacked s
-location-update-occurred s e = (update-occurred s (also-left _ _ e), go (s .machine) (also-right _ _ e))
-  where
-    go : (m : M.Variables) → onReady m (λ r. isAdvanceLocation (r .commitStatus)) false ≡ true → M.isReady m (λ r. r .commitStatus ≡ M.CommitStatus.CommitAdvanceLocation)
-    go (M.Variables.Ready r) e = is-location (r .commitStatus) e
-    go (M.Variables.LoadingOther r) e = false-true e
-    go (M.Variables.LoadingSuperblock r) e = false-true e
-
-pub occurred-location-update : (s : Variables) → HasLocationUpdateOccurredUnacked s → hasLocationUpdateOccurredUnacked s ≡ true
-occurred-location-update s h = also-both _ _ (occurred-update s (h .0)) (go (s .machine) (h .1))
-  where
-    go : (m : M.Variables) → M.isReady m (λ r. r .commitStatus ≡ M.CommitStatus.CommitAdvanceLocation) → onReady m (λ r. isAdvanceLocation (r .commitStatus)) false ≡ true
-    go (M.Variables.Ready r) e = ap isAdvanceLocation e
-    go (M.Variables.LoadingOther r) e = absurd e
-    go (M.Variables.LoadingSuperblock r) e = absurd e

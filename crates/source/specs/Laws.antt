@@ -1,7 +1,11 @@
 -- Laws about the relations, which a reader of the relations need not read.
+pub mod Cases
+pub mod Occurred
+pub mod Departs
 pub mod Initial
 pub mod Unique
 pub mod Answers
+pub mod Pieces
 pub mod Open
 pub mod Awaited
 pub mod PreservedReady
@@ -11,5 +15,6 @@ pub mod ShapeReady
 pub mod ShapeMachine
 pub mod ShapeDisk
 pub mod Kept
+pub mod Sync
 pub mod Format
 pub mod Bounds

@@ -24,7 +24,8 @@ use Rattle.source.specs.JournalSystem as Y
 use Rattle.source.specs.JournalSystem.{WFDisk, persistentInterval}
 use Rattle.source.specs.Limits.{Limits, MachineCounts, DiskCounts}
 
--- replay entries, which lie in memory of N blocks and as many lengths
+-- replay entries, which lie in memory of N blocks and as many lengths: no step is refused for them, since what parses is no more than what was
+-- read
 pub record ReplayShape (g : Geometry) (L : Limits) (es : List JournalEntry) : Type 0 where
   pub few : length es ≤ NumJournalBlocks g * BlockSize
   pub small : sum (lengths es) ≤ NumJournalBlocks g * BlockSize

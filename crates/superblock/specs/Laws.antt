@@ -1,9 +1,10 @@
 -- Laws of the superblock: well-formedness as facts, the counter's successor as a sum that wraps, and which slot is selected.
 use Prim.Native.Nat.{ℕ, _+_, _^_, _%_, _≤_, _<_}
-use mathlib.Core.Bool.{true, false}
+use mathlib.Core.Bool.{true, false, cond}
 use mathlib.Core.Path.{_≡_, refl, ap}
 use native.Mathlib.Omega.{arith}
-use borrow.Author.Tests.{leb-true, le-leb, ltb-true, lt-ltb, eqb-true, eq-eqb, ne-eqb}
+use lib.Dec.{eqb}
+use borrow.Author.Tests.{leb-true, le-leb, ltb-true, lt-ltb, eq-eqb, ne-eqb, eqb-true}
 use Rattle.laws.specs.Choice.{also-left, also-right, also-both, by-eqb}
 use Rattle.layout.specs.declared.geometry.Geometry.{Geometry}
 use Rattle.layout.specs.Laws.{ValidIndirectionTableLocation, table-location-facts, facts-table-location, same-location, location-same}
@@ -64,6 +65,18 @@ increment-wraps i h =
 
 pub increment-in : (i : ℕ) → i < 2 ^ 64 → IncrementSuperblockCounter i < 2 ^ 64
 increment-in i h = let e = increment-wraps i h in omega arith
+
+-- a step changes the counter's parity, also from the largest to 0; so no number is the second after itself
+pub increment-parity : (i : ℕ) → (IncrementSuperblockCounter i + 1) % 2 ≡ i % 2
+unfolding IncrementSuperblockCounter
+increment-parity i = by-eqb (λ (n : ℕ). (n + 1) % 2 ≡ i % 2) i 18446744073709551615 0 (i + 1) (λ e. omega arith) (λ e. omega arith)
+
+pub increment-twice : (i : ℕ) → i ≡ IncrementSuperblockCounter (IncrementSuperblockCounter i) → ⊥
+unfolding IncrementSuperblockCounter
+increment-twice i =
+    by-eqb (λ (n : ℕ). i ≡ cond (eqb n 18446744073709551615) 0 (n + 1) → ⊥) i 18446744073709551615 0 (i + 1)
+    (λ e. by-eqb (λ (n : ℕ). i ≡ n → ⊥) 0 18446744073709551615 0 (0 + 1) (λ d. absurd (omega arith)) (λ d k. omega arith))
+    (λ e. by-eqb (λ (n : ℕ). i ≡ n → ⊥) (i + 1) 18446744073709551615 0 (i + 1 + 1) (λ d k. omega arith) (λ d k. omega arith))
 
 -- after the largest counter comes 0, and a counter is not followed by one that is two on
 pub largest-then-zero : increments1 18446744073709551615 0 ≡ true

@@ -42,8 +42,9 @@ abbrev pub heldOf : Option JournalInterval → Held
 heldOf none = held.Nothing
 heldOf (some v) = held.Is v
 
-abbrev pub addedInterval : IntervalTable → ℕ → JournalInterval → IntervalTable
+-- one more at the end, and the last one in the place of another
+unfoldable pub addedInterval : IntervalTable → ℕ → JournalInterval → IntervalTable
 addedInterval t id v = intervalTable (addedRow (intervalRows t) id v)
 
-abbrev pub removedInterval : IntervalTable → ℕ → IntervalTable
+unfoldable pub removedInterval : IntervalTable → ℕ → IntervalTable
 removedInterval t i = intervalTable (removedRow (interval 0 0) (intervalRows t) i)

@@ -24,8 +24,8 @@ unfoldable pub within : List ℕ → List ℕ → Bool
 within xs ys = every (idsOf ys) xs
 
 -- the same ids
-unfoldable pub same : List ℕ → List ℕ → Bool
-same xs ys = also (within xs ys) (within ys xs)
+unfoldable pub sameIds : List ℕ → List ℕ → Bool
+sameIds xs ys = also (within xs ys) (within ys xs)
 
 -- question 2 of a table: the count lies within the limit and within the array, and the ids in use differ
 unfoldable pub counted : (most count : ℕ) → List ℕ → Bool

@@ -38,7 +38,7 @@ pub record SizedSyncs (t : SyncTable) : Type 0 where
 unfoldable pub okState : ℕ → Bool
 okState n = also (leb 1 n) (leb n 3)
 
-abbrev pub validStates : SyncTable → Bool
+unfoldable pub validStates : SyncTable → Bool
 validStates t = every okState (take (t .count) (t .states))
 
 -- the state of an id, 0 where it isn't there
@@ -46,10 +46,11 @@ abbrev pub orZero : Option ℕ → ℕ
 orZero none = 0
 orZero (some n) = n
 
-abbrev pub addedSync : SyncTable → ℕ → ℕ → SyncTable
+-- one more at the end, and the last one in the place of another
+unfoldable pub addedSync : SyncTable → ℕ → ℕ → SyncTable
 addedSync t id state = syncTable (addedRow (syncRows t) id state)
 
-abbrev pub removedSync : SyncTable → ℕ → SyncTable
+unfoldable pub removedSync : SyncTable → ℕ → SyncTable
 removedSync t i = syncTable (removedRow 0 (syncRows t) i)
 
 -- one state goes on to another, everywhere

@@ -75,6 +75,7 @@ impl IdTable {
         ask_join(&ids, self.count, id, most)
     }
 
+    // One more at the end; a full table stays as it is.
     pub fn add(mut self, id: u64) -> IdTable
         ensures { λ r. ⌜ r ≡ addedId self id ⌝ }
     {
@@ -87,6 +88,7 @@ impl IdTable {
         self
     }
 
+    // As in a set: an id that is there changes nothing.
     pub fn join(self, id: u64) -> IdTable
         ensures { λ r. ⌜ r ≡ joinedId self id ⌝ }
     {
@@ -97,7 +99,7 @@ impl IdTable {
         self.add(id)
     }
 
-    // The last one takes place i.
+    // The last one takes place i; a place that isn't in use changes nothing.
     pub fn remove(mut self, i: usize) -> IdTable
         ensures { λ r. ⌜ r ≡ removedId self i ⌝ }
     {

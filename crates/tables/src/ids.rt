@@ -3,20 +3,20 @@ use runs::lesser;
 ghost use mathlib.Core.Path.{_≡_};
 ghost use lib.ListN.{take};
 ghost use Rattle.laws.specs.Sets.{idsOf};
-ghost use Rattle.tables.specs.Rows.{placeOf, distinct, within, same, counted, hasRoom, askAdd, askJoin};
+ghost use Rattle.tables.specs.Rows.{placeOf, distinct, within, sameIds, counted, hasRoom, askAdd, askJoin};
 
 // The place of an id; the length where it isn't there.
 pub fn find(ids: &[u64], id: u64) -> usize
     ensures { λ r. ⌜ r ≡ placeOf id (now (ids .entry)) ⌝ }
 {
-    let mut i = 0;
-    while i < ids.len() {
-        if ids[i] == id {
-            return i;
+    let mut at = 0;
+    while at < ids.len() {
+        if ids[at] == id {
+            return at;
         }
-        i += 1;
+        at += 1;
     }
-    i
+    at
 }
 
 pub fn member(ids: &[u64], id: u64) -> bool
@@ -126,16 +126,16 @@ pub(crate) fn ask_join(ids: &[u64], count: usize, id: u64, most: usize) -> u8
     if there {
         return 0;
     }
-    let free = room(ids, count, 1, most);
-    if free {
+    let fits = room(ids, count, 1, most);
+    if fits {
         return 0;
     }
     8
 }
 
 // Do the ids in use of two arrays make the same set?
-pub(crate) fn same(xs: &[u64], m: usize, ys: &[u64], n: usize) -> bool
-    ensures { λ r. ⌜ r ≡ same (take m (now (xs .entry))) (take n (now (ys .entry))) ⌝ }
+pub(crate) fn same_sets(xs: &[u64], m: usize, ys: &[u64], n: usize) -> bool
+    ensures { λ r. ⌜ r ≡ sameIds (take m (now (xs .entry))) (take n (now (ys .entry))) ⌝ }
 {
     let a = used(xs, m);
     let b = used(ys, n);

@@ -5,14 +5,14 @@ use super::ids::has;
 use super::ids::ok;
 use super::ids::place;
 use super::ids::room;
-use super::ids::same;
+use super::ids::same_sets;
 use interval::JournalInterval;
 use layout::Geometry;
 use runs::lesser;
 ghost use mathlib.Core.Path.{_≡_};
 ghost use lib.ListN.{take};
 ghost use Rattle.laws.specs.Sets.{idsOf};
-ghost use Rattle.tables.specs.Rows.{placeOf, counted, hasRoom, askAdd, same};
+ghost use Rattle.tables.specs.Rows.{placeOf, counted, hasRoom, askAdd, sameIds};
 ghost use Rattle.tables.specs.IntervalTable.{intervalMap, noIntervals, validIntervals, heldOf, addedInterval, removedInterval};
 
 const SIZE: usize = 16;
@@ -114,6 +114,7 @@ impl IntervalTable {
         ask_add(&ids, self.count, id, most)
     }
 
+    // One more at the end; a full table stays as it is.
     pub fn add(mut self, id: u64, v: JournalInterval) -> IntervalTable
         ensures { λ r. ⌜ r ≡ addedInterval self id v ⌝ }
     {
@@ -127,7 +128,7 @@ impl IntervalTable {
         self
     }
 
-    // The last one takes place i.
+    // The last one takes place i; a place that isn't in use changes nothing.
     pub fn remove(mut self, i: usize) -> IntervalTable
         ensures { λ r. ⌜ r ≡ removedInterval self i ⌝ }
     {
@@ -148,9 +149,9 @@ impl IntervalTable {
 
 // Do the two tables hold the same ids?
 pub fn same_ids(a: IdTable, b: IntervalTable) -> bool
-    ensures { λ r. ⌜ r ≡ same (take (a .count) (a .ids)) (take (b .count) (b .ids)) ⌝ }
+    ensures { λ r. ⌜ r ≡ sameIds (take (a .count) (a .ids)) (take (b .count) (b .ids)) ⌝ }
 {
     let xs = a.ids;
     let ys = b.ids;
-    same(&xs, a.count, &ys, b.count)
+    same_sets(&xs, a.count, &ys, b.count)
 }

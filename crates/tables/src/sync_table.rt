@@ -82,6 +82,7 @@ impl SyncTable {
         ask_add(&ids, self.count, id, most)
     }
 
+    // One more at the end; a full table stays as it is.
     pub fn add(mut self, id: u64, state: u8) -> SyncTable
         ensures { λ r. ⌜ r ≡ addedSync self id state ⌝ }
     {
@@ -95,7 +96,7 @@ impl SyncTable {
         self
     }
 
-    // The last one takes place i.
+    // The last one takes place i; a place that isn't in use changes nothing.
     pub fn remove(mut self, i: usize) -> SyncTable
         ensures { λ r. ⌜ r ≡ removedSync self i ⌝ }
     {

@@ -21,7 +21,7 @@ use Rattle.reader.specs.declared.answer.Scanned.the-variants as scan
 use Rattle.reader.specs.Answer.{scanned, scanned-total, scanned-refused}
 use Rattle.reader.specs.declared.answer.Contents.{Contents}
 use Rattle.reader.specs.Range.{contentsOf}
-use Rattle.unpacker.specs.Front.{frontRange, frontEntries, InFront, Fronted, fronted}
+use Rattle.reader.specs.Front.{frontRange, frontEntries, InFront, Fronted, fronted}
 use Rattle.unpacker.specs.Walked.{Walked, walked-none, walked-here, walked-next, entries-here}
 
 -- questions 1 and 7

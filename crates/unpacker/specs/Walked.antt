@@ -13,8 +13,8 @@ use Rattle.range.specs.Form.{Entry, MostEntryLength, LengthWidth, blockCount, e
 use Rattle.range.specs.Walk.{all-done, all-end, all-empty, all-no, all-yes, entries-next}
 use Rattle.reader.specs.declared.answer.Scanned.the-variants as scan
 use Rattle.reader.specs.Answer.{scanned}
-use Rattle.unpacker.specs.declared.ranges.Front.the-variants as front
-use Rattle.unpacker.specs.Front.{frontRange, frontEntries, InFront, frontOf, Fronted, front-none}
+use Rattle.reader.specs.declared.answer.Front.the-variants as front
+use Rattle.reader.specs.Front.{frontRange, frontEntries, InFront, frontOf, Fronted, front-none}
 
 -- n entries with t bytes stand before the place `at`
 pub record Walked (xs : List ℕ) (at n t : ℕ) : Type 0 where

@@ -1,42 +1,12 @@
 // A walk from range to range: each says how long it is.
 use range::BLOCK_SIZE;
+use reader::Front;
 use reader::Scanned;
-use reader::contents;
-use reader::scan_range;
+use reader::range_in_front;
 ghost use mathlib.Core.Path.{_≡_};
 ghost use Rattle.laws.specs.Choice.{ask};
 ghost use Rattle.range.specs.Form.{allEntries, allParse};
 ghost use Rattle.reader.specs.Answer.{scanned};
-ghost use Rattle.unpacker.specs.Front.{frontOf};
-
-// The range in front of some bytes, and what it holds; or the bytes in front are none.
-enum Front {
-    Range {
-        size: usize,
-        entries: u64,
-        bytes: u64,
-    },
-    Nothing,
-}
-
-fn range_in_front(s: &[u8]) -> Front
-    ensures { λ r. ⌜ r ≡ frontOf (now (s .entry)) ⌝ }
-{
-    let c = contents(s);
-    let size = c.blocks * BLOCK_SIZE;
-    if s.len() < size {
-        return Front::Nothing;
-    }
-    let r = scan_range(&s[0..size]);
-    match r {
-        Scanned::Total { entries, bytes } => Front::Range {
-            size,
-            entries,
-            bytes,
-        },
-        Scanned::Refused(q) => Front::Nothing,
-    }
-}
 
 // How many entries the ranges have, and how many bytes these have together. A 7 where the bytes aren't ranges to the last one.
 pub fn scan(s: &[u8]) -> Scanned
@@ -47,17 +17,12 @@ pub fn scan(s: &[u8]) -> Scanned
     let mut total: u64 = 0;
     while at < s.len() {
         let f = range_in_front(&s[at..]);
-        let Front::Range {
-            size,
-            entries,
-            bytes,
-        } = f
-        else {
+        let Front::Range(c) = f else {
             return Scanned::Refused(7);
         };
-        count += entries;
-        total += bytes;
-        at += size;
+        count += c.entries as u64;
+        total += c.bytes as u64;
+        at += c.blocks * BLOCK_SIZE;
     }
     Scanned::Total {
         entries: count,

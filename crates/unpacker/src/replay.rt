@@ -14,7 +14,7 @@ ghost use Rattle.laws.specs.Cut.{flat, lengths};
 ghost use Rattle.range.specs.Form.{allEntries};
 ghost use Rattle.reader.specs.Answer.{scanned};
 ghost use Rattle.reader.specs.Range.{contentsOf};
-ghost use Rattle.unpacker.specs.Front.{InFront, frontEntries};
+ghost use Rattle.reader.specs.Front.{InFront, frontEntries};
 ghost use Rattle.unpacker.specs.Unpack.{askUnpack, Room};
 
 // The bodies of the range in front of s to `bytes` from `at` on, its lengths to `lens` from `n` on.

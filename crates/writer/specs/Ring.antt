@@ -1,30 +1,27 @@
 -- The journal as a ring of whole blocks, and a range written into it from a block on. Assumes nothing.
 use Prim.Native.Nat.{ℕ, _+_, _*_, _/_, _%_, _-_, _≤_, _<_}
-use mathlib.Core.Bool.{Bool, true, false}
-use mathlib.Core.Path.{_≡_, sym, _∙_, ap}
-use mathlib.Core.List.{List}
+use mathlib.Core.Bool.{Bool, true, false, cond}
+use mathlib.Core.Path.{_≡_, refl, sym, _∙_, ap}
+use mathlib.Core.List.{List, [], _∷_, _++_}
 use mathlib.Core.Option.{some}
 use native.Mathlib.Nat.{sub-zero}
 use native.Mathlib.Omega.{arith}
-use lib.ListN.{length, take, replicate, length-replicate}
+use lib.ListN.{length, take, replicate, length-append, length-replicate}
 use lib.Seq.{take-all, length-take-le}
 use lib.Dec.{leb, ltb, eqb}
 use borrow.Author.Tests.{lt-ltb, le-ltb, le-leb, lt-leb, eqb-true, leb-true, ltb-true}
-use Rattle.laws.specs.Choice.{also, ask, andThen, unless, also-left, also-right, andThen-left, andThen-right, ask-yes, andThen-first, unless-kept, unless-done}
+use Rattle.laws.specs.Choice.{also, ask, andThen, unless, also-left, also-right, also-both, andThen-left, andThen-right, ask-yes, andThen-first, unless-kept, unless-done}
+use Rattle.laws.specs.Digits.{digits}
 use Rattle.laws.specs.Ring.{wrap, wrap-below}
-use Rattle.laws.specs.Around.{around, spliceAround, length-spliceAround, around-here}
-use Rattle.range.specs.Form.{BlockSize, MostEntryLength, LengthWidth, HeadSize, used, blocksFor, blocks, encode, parse}
-use Rattle.range.specs.Blocks.{blocks-hold, good-blocks, format-sizes, length-encodeAt}
+use Rattle.laws.specs.Around.{around, spliceAround, around-here, around-run}
+use Rattle.layout.specs.Geometry.{BlockSize, MostBlocks}
+use Rattle.range.specs.Form.{MostEntries, MostEntryLength, LengthWidth, HeadSize, lengthBytes, used, blocksFor, blocks, encode, parse}
+use Rattle.range.specs.Blocks.{format-sizes, length-encodeAt}
 use Rattle.range.specs.Round.{parse-encode}
-use Rattle.range.specs.Memory.{view, total, write-view}
+use Rattle.range.specs.Memory.{view, total, rangeFrom, rangeFrom-view}
 use Rattle.range.specs.Runs.{head, length-head}
 use Rattle.runs.specs.Low.{lowBytes, length-lowBytes}
-use Rattle.lengths.specs.Total.{lengthBytes-low}
-use Rattle.writer.specs.Entries.{entriesOk, Fits, entries-facts, fits-good, fits-blocks}
-
--- the most blocks of a journal
-abbrev pub MostBlocks : ℕ
-MostBlocks = 4096
+use Rattle.writer.specs.Entries.{rangeOk, Fits, range-facts, facts-range, fits-good, fits-blocks}
 
 -- so many bytes are from 1 to 4,096 whole blocks
 unfoldable pub journalOk : ℕ → Bool
@@ -34,8 +31,25 @@ journalOk len = also (eqb (len % BlockSize) 0) (also (leb 1 (len / BlockSize)) (
 unfoldable pub askWrite : List ℕ → List ℕ → ℕ → List ℕ → ℕ → ℕ
 askWrite bytes lens n journal start =
     andThen (ask 1 (journalOk (length journal)))
-    (andThen (ask 4 (also (ltb start (length journal / BlockSize)) (entriesOk bytes lens n)))
+    (andThen (ask 4 (also (ltb start (length journal / BlockSize)) (rangeOk bytes lens n)))
     (ask 8 (leb (blocks (view bytes lens n)) (length journal / BlockSize))))
+
+-- a write that asks nothing of the lengths: as many bytes and lengths are there, few enough lengths for a range, and the range of n
+-- entries with t bytes lies in a journal of `all` blocks
+unfoldable pub putOk : ℕ → ℕ → ℕ → ℕ → ℕ → ℕ → Bool
+putOk bytes lens n t all start =
+    also (leb n MostEntries)
+    (also (leb n lens)
+    (also (leb t bytes)
+    (also (ltb start all)
+    (leb (blocksFor (used LengthWidth n t)) all))))
+
+-- what it leaves
+unfoldable pub putRange : List ℕ → List ℕ → ℕ → ℕ → List ℕ → ℕ → List ℕ
+putRange bytes lens n t journal start =
+    cond (putOk (length bytes) (length lens) n t (length journal / BlockSize) start)
+    (spliceAround journal (start * BlockSize) (rangeFrom LengthWidth bytes lens n t))
+    journal
 
 -- all were answered yes
 pub record Writable (bytes lens : List ℕ) (n : ℕ) (journal : List ℕ) (start : ℕ) : Type 0 where
@@ -50,13 +64,13 @@ unfolding askWrite journalOk
 write-asked bytes lens n journal start e =
     let j : journalOk (length journal) ≡ true = ask-yes 1 (journalOk (length journal)) (omega arith) (andThen-left (ask 1 (journalOk (length journal))) _ e) in
     let r = andThen-right (ask 1 (journalOk (length journal))) _ e in
-    let a : also (ltb start (length journal / BlockSize)) (entriesOk bytes lens n) ≡ true = ask-yes 4 _ (omega arith) (andThen-left (ask 4 _) _ r) in
+    let a : also (ltb start (length journal / BlockSize)) (rangeOk bytes lens n) ≡ true = ask-yes 4 _ (omega arith) (andThen-left (ask 4 _) _ r) in
     let m : length journal % BlockSize ≡ 0 = eqb-true (length journal % BlockSize) 0 (also-left _ _ j) in
     record {
       whole = omega arith;
       most = leb-true (length journal / BlockSize) MostBlocks (also-right _ _ (also-right _ _ j));
       inside = ltb-true start (length journal / BlockSize) (also-left _ _ a);
-      entries = entries-facts bytes lens n (also-right _ _ a);
+      entries = range-facts bytes lens n (also-right _ _ a);
       holds = leb-true (blocks (view bytes lens n)) (length journal / BlockSize) (ask-yes 8 _ (omega arith) (andThen-right (ask 4 _) (ask 8 _) r));
     }
 
@@ -87,142 +101,164 @@ module _ (bytes lens : List ℕ) (n : ℕ) (journal : List ℕ) (start : ℕ) wh
     write-start h = simp (whole, le-ltb start (length journal / BlockSize) h)
 
     module _ (s : start < length journal / BlockSize) where
-      pub write-entries : entriesOk bytes lens n ≡ false → askWrite bytes lens n journal start ≡ 4
+      pub write-entries : rangeOk bytes lens n ≡ false → askWrite bytes lens n journal start ≡ 4
       unfolding askWrite andThen ask also
       write-entries h = simp (whole, lt-ltb start (length journal / BlockSize) s, h)
 
-      module _ (e : entriesOk bytes lens n ≡ true) (b : ℕ) (hb : b ≡ blocks (view bytes lens n)) where
+      module _ (f : Fits bytes lens n) (b : ℕ) (hb : b ≡ blocks (view bytes lens n)) where
         pub write-full : length journal / BlockSize < b → askWrite bytes lens n journal start ≡ 8
         unfolding askWrite andThen ask also
         write-full h =
             let l : length journal / BlockSize < blocks (view bytes lens n) = omega arith in
-            simp (whole, lt-ltb start (length journal / BlockSize) s, e, lt-leb (blocks (view bytes lens n)) (length journal / BlockSize) l)
+            simp (whole, lt-ltb start (length journal / BlockSize) s, facts-range bytes lens n f, lt-leb (blocks (view bytes lens n)) (length journal / BlockSize) l)
 
         pub write-yes : b ≤ length journal / BlockSize → askWrite bytes lens n journal start ≡ 0
         unfolding askWrite andThen ask also
         write-yes h =
             let l : blocks (view bytes lens n) ≤ length journal / BlockSize = omega arith in
-            simp (whole, lt-ltb start (length journal / BlockSize) s, e, le-leb (blocks (view bytes lens n)) (length journal / BlockSize) l)
+            simp (whole, lt-ltb start (length journal / BlockSize) s, facts-range bytes lens n f, le-leb (blocks (view bytes lens n)) (length journal / BlockSize) l)
 
--- what the journal has become
+-- the journal after a refusal
 pub write-kept : (q k : ℕ) (x new : List ℕ) → q ≡ k → (k ≡ 0 → ⊥) → x ≡ unless q x new
 write-kept q k x new h l = sym (unless-kept q x new (λ e. l (sym h ∙ e)))
 
-pub write-done : (q : ℕ) (x old new : List ℕ) → q ≡ 0 → x ≡ new → x ≡ unless q old new
-write-done q x old new h k = k ∙ sym (unless-done q old new h)
-
--- all were answered yes: t bytes of bodies, b blocks, from the place `at` on
-pub record Ready (bytes lens : List ℕ) (n t b : ℕ) (journal : List ℕ) (at : ℕ) : Type 0 where
-  pub any : 1 ≤ n
-  pub few : n ≤ 1024
+-- the numbers fit: b blocks, from the place `at` on
+pub record Puts (bytes lens : List ℕ) (n t b : ℕ) (journal : List ℕ) (at : ℕ) : Type 0 where
+  pub few : n ≤ MostEntries
   pub there : n ≤ length lens
-  pub bodies : t ≡ total lens n
   pub fit : t ≤ length bytes
   pub fewest : b ≡ blocksFor (used LengthWidth n t)
-  pub few-blocks : b < 65536
   pub room : b * BlockSize ≤ length journal
   pub first-block : at + BlockSize ≤ length journal
 
-pub ready : (bytes lens : List ℕ) (n t b : ℕ) (journal : List ℕ) (start : ℕ) → entriesOk bytes lens n ≡ true → t ≡ total lens n → b ≡ blocks (view bytes lens n)
-    → start < length journal / BlockSize → b ≤ length journal / BlockSize → Ready bytes lens n t b journal (start * BlockSize)
-ready bytes lens n t b journal start e ht hb hs l =
-    let f = entries-facts bytes lens n e in
-    record {
-      any = f .any;
-      few = f .few;
-      there = f .there;
-      bodies = ht;
-      fit = omega arith;
-      fewest = hb ∙ fits-blocks bytes lens n f ∙ ap (λ (m : ℕ). blocksFor (used LengthWidth n m)) (sym ht);
-      few-blocks = omega (arith, hb, good-blocks LengthWidth MostEntryLength (view bytes lens n) format-sizes (fits-good bytes lens n f));
-      room = omega arith;
-      first-block = omega arith;
-    }
+module _ (bytes lens : List ℕ) (n t : ℕ) (journal : List ℕ) (start : ℕ) where
+  pub puts-facts : (b : ℕ) → putOk (length bytes) (length lens) n t (length journal / BlockSize) start ≡ true → b ≡ blocksFor (used LengthWidth n t)
+      → Puts bytes lens n t b journal (start * BlockSize)
+  unfolding putOk
+  puts-facts b e hb =
+      let e1 = also-right _ _ e in
+      let e2 = also-right _ _ e1 in
+      let e3 = also-right _ _ e2 in
+      let inside : start < length journal / BlockSize = ltb-true start (length journal / BlockSize) (also-left _ _ e3) in
+      let holds : blocksFor (used LengthWidth n t) ≤ length journal / BlockSize = leb-true (blocksFor (used LengthWidth n t)) (length journal / BlockSize) (also-right _ _ e3) in
+      record {
+        few = leb-true n MostEntries (also-left _ _ e);
+        there = leb-true n (length lens) (also-left _ _ e1);
+        fit = leb-true t (length bytes) (also-left _ _ e2);
+        fewest = hb;
+        room = omega arith;
+        first-block = omega arith;
+      }
 
--- a run that the ring holds isn't cut
-uncut : (d s : List ℕ) (at : ℕ) → length s ≤ length d → spliceAround d at (take (length d) s) ≡ spliceAround d at s
-uncut d s at h = ap (spliceAround d at) (take-all (length d) s h)
+  -- so the place is a place of the journal
+  pub puts-start : putOk (length bytes) (length lens) n t (length journal / BlockSize) start ≡ true → start * BlockSize ≤ length journal
+  puts-start e = let p = puts-facts (blocksFor (used LengthWidth n t)) e refl in omega arith
+
+  -- the two ways of the write
+  pub put-no : putOk (length bytes) (length lens) n t (length journal / BlockSize) start ≡ false → journal ≡ putRange bytes lens n t journal start
+  unfolding putRange
+  put-no e = sym (simp e)
+
+  pub put-yes : (x : List ℕ) → putOk (length bytes) (length lens) n t (length journal / BlockSize) start ≡ true
+      → x ≡ spliceAround journal (start * BlockSize) (rangeFrom LengthWidth bytes lens n t) → x ≡ putRange bytes lens n t journal start
+  unfolding putRange
+  put-yes x e h = h ∙ sym (simp e)
+
+  -- of entries that make a range, counted by their lengths, it is the range of the entries
+  pub put-view : Fits bytes lens n → t ≡ total lens n → start < length journal / BlockSize → blocks (view bytes lens n) ≤ length journal / BlockSize
+      → putRange bytes lens n t journal start ≡ spliceAround journal (start * BlockSize) (encode (view bytes lens n))
+  unfolding putRange putOk
+  put-view f ht inside holds =
+      simp ok
+      (ap (λ (k : ℕ). spliceAround journal (start * BlockSize) (rangeFrom LengthWidth bytes lens n k)) ht
+      ∙ ap (spliceAround journal (start * BlockSize)) (rangeFrom-view LengthWidth MostEntryLength bytes lens n (f .held .there) (f .held .fit)))
+    where
+      blocks-is : blocksFor (used LengthWidth n t) ≡ blocks (view bytes lens n)
+      blocks-is = ap (λ (k : ℕ). blocksFor (used LengthWidth n k)) ht ∙ sym (fits-blocks bytes lens n f)
+
+      ok : also (leb n MostEntries) (also (leb n (length lens)) (also (leb t (length bytes)) (also (ltb start (length journal / BlockSize)) (leb (blocksFor (used LengthWidth n t)) (length journal / BlockSize))))) ≡ true
+      ok =
+          also-both _ _ (le-leb n MostEntries (f .few))
+          (also-both _ _ (le-leb n (length lens) (f .held .there))
+          (also-both _ _ (le-leb t (length bytes) (omega (arith, ht, f .held .fit)))
+          (also-both _ _ (lt-ltb start (length journal / BlockSize) inside)
+          (le-leb (blocksFor (used LengthWidth n t)) (length journal / BlockSize) (omega (arith, holds, blocks-is))))))
+
+-- and so after the questions were answered yes
+pub write-put : (bytes lens : List ℕ) (n : ℕ) (journal : List ℕ) (start t : ℕ) (x : List ℕ) → askWrite bytes lens n journal start ≡ 0 → t ≡ total lens n
+    → x ≡ putRange bytes lens n t journal start
+    → x ≡ unless (askWrite bytes lens n journal start) journal (spliceAround journal (start * BlockSize) (encode (view bytes lens n)))
+write-put bytes lens n journal start t x q ht h =
+    let w = write-asked bytes lens n journal start q in
+    h ∙ put-view bytes lens n t journal start (w .entries) ht (w .inside) (w .holds) ∙ sym (unless-done _ _ _ q)
+
+-- the low bytes of lengths are their bytes in a range
+low-lengths : (ns : List ℕ) → lowBytes ns ≡ lengthBytes 1 ns
+unfolding lengthBytes digits lowBytes
+low-lengths [] = refl
+low-lengths (n ∷ ns) = ap (λ (l : List ℕ). n % 256 ∷ l) (low-lengths ns)
 
 -- the four runs as the code writes them: the head's four bytes, n lengths, t bytes of bodies, z zeros
-module _ (bytes lens : List ℕ) (n t b : ℕ) (journal : List ℕ) (at : ℕ) (r : Ready bytes lens n t b journal at) where
-  pub put-law : (h x1 x2 x3 x4 : List ℕ) (p4 z : ℕ) → h ≡ head b n → z + (HeadSize + n + t) ≡ b * BlockSize → p4 ≡ wrap (length journal) (at + HeadSize + n + t)
+module _ (bytes lens : List ℕ) (n t b : ℕ) (journal : List ℕ) (at : ℕ) (r : Puts bytes lens n t b journal at) where
+  pub put-runs : (h x1 x2 x3 x4 : List ℕ) (p4 z : ℕ) → h ≡ head b n → z + (HeadSize + n + t) ≡ b * BlockSize → p4 ≡ wrap (length journal) (at + HeadSize + n + t)
       → x1 ≡ spliceAround journal at (take (length journal) (take (HeadSize - 0) h))
       → x2 ≡ spliceAround x1 (at + HeadSize) (take (length x1) (lowBytes (take (n - 0) lens)))
       → x3 ≡ spliceAround x2 (at + HeadSize + n) (take (length x2) (take (t - 0) bytes))
       → x4 ≡ spliceAround x3 p4 (take (length x3) (replicate z 0))
-      → x4 ≡ spliceAround journal at (encode (view bytes lens n))
-  put-law h x1 x2 x3 x4 p4 z hh hz h4 q1 q2 q3 q4 =
-      write-view LengthWidth MostEntryLength bytes lens n (r .there) (omega (arith, r .bodies, r .fit)) journal x1 x2 x3 x4 (lowBytes (take n lens)) at b t z
-      (at + HeadSize) (at + HeadSize + n) p4
-      (r .fewest)
-      (r .bodies)
-      (omega (arith, hz))
-      (omega (arith, r .first-block))
-      (r .room)
-      (sym (lengthBytes-low (take n lens)))
-      (sym (wrap-below (length journal) (at + HeadSize) (omega (arith, r .first-block))))
-      (p3 ∙ ap (wrap (length journal)) sum3)
-      (h4 ∙ ap (wrap (length journal)) sum4)
-      e1
-      e2
-      e3
-      e4
+      → x4 ≡ spliceAround journal at (rangeFrom LengthWidth bytes lens n t)
+  put-runs h x1 x2 x3 x4 p4 z hh hz h4 q1 q2 q3 q4 =
+      r4 ∙ (λ i. spliceAround journal at (head (r .fewest i) n ++ low-lengths (take n lens) i ++ take t bytes ++ replicate {A = ℕ} (zeros i) 0))
     where
-      used-in : HeadSize + n + t ≤ length journal
-      used-in = omega (arith, r .room, r .fewest, blocks-hold (used LengthWidth n t))
+      in-room : at < length journal
+      in-room = omega (arith, r .first-block)
 
-      sum3 : at + HeadSize + n ≡ at + (HeadSize + n * LengthWidth)
-      sum3 = omega arith
+      used-in : HeadSize + n + t + z ≤ length journal
+      used-in = omega (arith, r .room, hz)
 
-      sum4 : at + HeadSize + n + t ≡ at + used LengthWidth n t
-      sum4 = omega arith
+      zeros : z ≡ blocksFor (used LengthWidth n t) * BlockSize - used LengthWidth n t
+      zeros = omega (arith, hz, r .fewest)
 
-      p3 : at + HeadSize + n ≡ wrap (length journal) (at + HeadSize + n)
-      p3 = sym (wrap-below (length journal) (at + HeadSize + n) (omega (arith, r .first-block, r .few)))
-
-      four : length h ≡ HeadSize
-      four = ap length hh ∙ length-head b n
-
-      e1 : x1 ≡ spliceAround journal at (head b n)
-      e1 =
-          q1
-          ∙ ap (λ (l : List ℕ). spliceAround journal at (take (length journal) l)) (take-all (HeadSize - 0) h (omega (arith, four)) ∙ hh)
-          ∙ uncut journal (head b n) at (omega (arith, r .first-block, length-head b n))
-
-      long1 : length x1 ≡ length journal
-      long1 =
-          ap length e1
-          ∙ length-spliceAround journal at (head b n) (omega (arith, r .first-block)) (omega (arith, r .first-block, length-head b n))
+      long1 : length (head b n) ≡ HeadSize
+      long1 = length-head b n
 
       low : length (lowBytes (take n lens)) ≡ n
       low = length-lowBytes (take n lens) ∙ length-take-le n lens (r .there)
 
-      e2 : x2 ≡ spliceAround x1 (at + HeadSize) (lowBytes (take n lens))
-      e2 =
-          q2
-          ∙ ap (λ (m : ℕ). spliceAround x1 (at + HeadSize) (take (length x1) (lowBytes (take m lens)))) (sub-zero n)
-          ∙ uncut x1 (lowBytes (take n lens)) (at + HeadSize) (omega (arith, low, long1, used-in))
-
-      long2 : length x2 ≡ length journal
-      long2 =
-          ap length e2
-          ∙ length-spliceAround x1 (at + HeadSize) (lowBytes (take n lens)) (omega (arith, long1, r .first-block)) (omega (arith, low, long1, used-in))
-          ∙ long1
+      long2 : length (head b n ++ lowBytes (take n lens)) ≡ HeadSize + n
+      long2 = length-append (head b n) (lowBytes (take n lens)) ∙ (λ i. long1 i + low i)
 
       bodies : length (take t bytes) ≡ t
       bodies = length-take-le t bytes (r .fit)
 
-      e3 : x3 ≡ spliceAround x2 (at + HeadSize + n) (take t bytes)
-      e3 =
-          q3
-          ∙ ap (λ (m : ℕ). spliceAround x2 (at + HeadSize + n) (take (length x2) (take m bytes))) (sub-zero t)
-          ∙ uncut x2 (take t bytes) (at + HeadSize + n) (omega (arith, bodies, long2, used-in))
+      long3 : length (head b n ++ lowBytes (take n lens) ++ take t bytes) ≡ HeadSize + n + t
+      long3 = length-append (head b n ++ lowBytes (take n lens)) (take t bytes) ∙ (λ i. long2 i + bodies i)
 
-      long3 : length x3 ≡ length journal
-      long3 =
-          ap length e3
-          ∙ length-spliceAround x2 (at + HeadSize + n) (take t bytes) (omega (arith, long2, r .first-block, r .few)) (omega (arith, bodies, long2, used-in))
-          ∙ long2
+      below : (k : ℕ) → k ≤ HeadSize + MostEntries → at + k ≡ wrap (length journal) (at + k)
+      below k l = sym (wrap-below (length journal) (at + k) (omega (arith, l, r .first-block)))
 
-      e4 : x4 ≡ spliceAround x3 p4 (replicate z 0)
-      e4 = q4 ∙ uncut x3 (replicate z 0) p4 (omega (arith, length-replicate {A = ℕ} z 0, long3, hz, r .room))
+      r1 : x1 ≡ spliceAround journal at (head b n)
+      r1 =
+          q1
+          ∙ ap (λ (l : List ℕ). spliceAround journal at (take (length journal) l)) (take-all (HeadSize - 0) h (omega (arith, ap length hh, long1)) ∙ hh)
+          ∙ ap (spliceAround journal at) (take-all (length journal) (head b n) (omega (arith, long1, r .first-block)))
+
+      r2 : x2 ≡ spliceAround journal at (head b n ++ lowBytes (take n lens))
+      r2 =
+          around-run journal x1 x2 (head b n) (lowBytes (take n lens)) at (at + HeadSize) in-room (omega (arith, long1, low, used-in)) r1
+          (below HeadSize (omega arith) ∙ ap (λ (k : ℕ). wrap (length journal) (at + k)) (sym long1))
+          (q2 ∙ ap (λ (k : ℕ). spliceAround x1 (at + HeadSize) (take (length x1) (lowBytes (take k lens)))) (sub-zero n))
+
+      r3 : x3 ≡ spliceAround journal at (head b n ++ lowBytes (take n lens) ++ take t bytes)
+      r3 =
+          let e : at + HeadSize + n ≡ at + (HeadSize + n) = omega arith in
+          around-run journal x2 x3 (head b n ++ lowBytes (take n lens)) (take t bytes) at (at + HeadSize + n) in-room (omega (arith, long2, bodies, used-in)) r2
+          (e ∙ below (HeadSize + n) (omega (arith, r .few)) ∙ ap (λ (k : ℕ). wrap (length journal) (at + k)) (sym long2))
+          (q3 ∙ ap (λ (k : ℕ). spliceAround x2 (at + HeadSize + n) (take (length x2) (take k bytes))) (sub-zero t))
+
+      r4 : x4 ≡ spliceAround journal at (head b n ++ lowBytes (take n lens) ++ take t bytes ++ replicate z 0)
+      r4 =
+          let e : at + HeadSize + n + t ≡ at + (HeadSize + n + t) = omega arith in
+          around-run journal x3 x4 (head b n ++ lowBytes (take n lens) ++ take t bytes) (replicate z 0) at p4 in-room
+          (omega (arith, long3, length-replicate {A = ℕ} z 0, used-in)) r3
+          (h4 ∙ ap (wrap (length journal)) e ∙ ap (λ (k : ℕ). wrap (length journal) (at + k)) (sym long3))
+          q4

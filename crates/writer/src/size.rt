@@ -1,10 +1,8 @@
 // How large the range of some entries is.
 use super::answer::Written;
-use lengths::every_length_ok;
-use lengths::total;
-use range::BLOCK_SIZE;
-use range::HEAD_SIZE;
-use range::MOST_ENTRY_LENGTH;
+use lengths::Held;
+use lengths::entries_held;
+use range::blocks_of;
 ghost use mathlib.Core.Path.{_≡_};
 ghost use Rattle.range.specs.Form.{blocks};
 ghost use Rattle.range.specs.Memory.{view};
@@ -15,7 +13,7 @@ const MOST_ENTRIES: u64 = range::MOST_ENTRIES as u64;
 
 // The bytes of the bodies and the blocks of a range, or the number of a refusal.
 pub(crate) enum Sized {
-    Range { bodies: usize, blocks: usize },
+    Range { bodies: u64, blocks: u64 },
     Refused(u8),
 }
 
@@ -29,20 +27,12 @@ pub(crate) fn size_of_range(bytes: &[u8], lens: &[u16], n: u64) -> Sized
     if MOST_ENTRIES < n {
         return Sized::Refused(4);
     }
-    let count = n as usize;
-    if lens.len() < count {
+    let h = entries_held(lens, 0, n, bytes.len() as u64);
+    let Held::Bytes(bodies) = h else {
         return Sized::Refused(4);
-    }
-    if every_length_ok(&lens[0..count], MOST_ENTRY_LENGTH) {
-        let bodies = total(&lens[0..count]) as usize;
-        if bodies <= bytes.len() {
-            return Sized::Range {
-                bodies,
-                blocks: (HEAD_SIZE + count + bodies + (BLOCK_SIZE - 1)) / BLOCK_SIZE,
-            };
-        }
-    }
-    Sized::Refused(4)
+    };
+    let blocks = blocks_of(n, bodies);
+    Sized::Range { bodies, blocks }
 }
 
 // The blocks of the range of the first n entries.
@@ -51,7 +41,7 @@ pub fn range_blocks(bytes: &[u8], lens: &[u16], n: u64) -> Written
 {
     let s = size_of_range(bytes, lens, n);
     match s {
-        Sized::Range { bodies, blocks } => Written::Blocks(blocks as u64),
+        Sized::Range { bodies, blocks } => Written::Blocks(blocks),
         Sized::Refused(q) => Written::Refused(q),
     }
 }

@@ -1,96 +1,122 @@
--- The example day, whole: it goes round the ring of four blocks with commits of both kinds, a damaged read, two refused calls, and a crash with
--- a write in flight, which leaves both its blocks unreadable. Then it is loaded, and shows its ledger. So what demand 3 speaks of is there.
+-- The example day, whole: entries frozen, commits of both kinds, ranges that go round the ring of four blocks, a damaged read, three calls that
+-- are refused because they are not allowed, and a crash with a write in flight, which leaves its block unreadable. Then it is loaded, and
+-- shows its ledger. So what demand 3 speaks of is there.
 use Prim.Native.Nat.{ℕ, zero, suc, _+_, _%_, _<_}
 use mathlib.Core.Bool.{Bool, true, false}
-use mathlib.Core.Path.{_≡_, refl, sym, _∙_, ap, subst}
+use mathlib.Core.Path.{subst, _≡_, refl, sym, _∙_, ap}
 use mathlib.Core.List.{List, [], _∷_, _++_, append-nil}
 use mathlib.Core.Option.{Option, none, some}
 use mathlib.Core.Logic.{inl, ⊎-elim}
 use native.Mathlib.Omega.{arith}
-use lib.ListN.{getD, replicate}
+use lib.ListN.{length, getD}
 use Rattle.laws.specs.Cut.{flat}
+use Rattle.laws.specs.Sets.{Map, no-keys, bind, none-some, bind-here}
+use Rattle.laws.specs.Maps.{values-bind}
 use Rattle.interval.specs.declared.interval.JournalInterval.{JournalInterval}
-use Rattle.interval.specs.Interval.{interval}
+use Rattle.interval.specs.Interval.{interval, JournalFrontInterval, JournalBackInterval}
 use Rattle.interval.specs.Facts.{InCyclicRange}
 use Rattle.interval.specs.Journal.{JournalBlock}
 use Rattle.superblock.specs.declared.superblock.Superblock.{Superblock}
 use Rattle.superblock.specs.Superblock.{IncrementSuperblockCounter}
-use Rattle.laws.specs.Sets.{Ids, no-ids, join, Map, no-keys, bind, AtMost, both, none-some, bind-here}
-use Rattle.laws.specs.Maps.{Values, values-bind, keys-bind}
+use Rattle.codec.specs.Format.{format}
 use Rattle.source.specs.JournalDisk.{JournalUntouched}
 use Rattle.source.specs.JournalCache as M
 use Rattle.source.specs.JournalSystem as Y
 use Rattle.source.specs.JournalSystem.{SuperblockOfDisk}
 use Rattle.source.specs.Limits.{limits}
 use Rattle.source.specs.Departures.{CrashStep}
-use Rattle.history.specs.Ledger.{Call, writeJournal, journalWritten, commitLog, commitLocation, superblockWritten, freeze, receive, add, land, crash, blocks, begin, tell, books, Shown, shown}
-use Rattle.history.specs.Simulation.Relation.{idle}
-use Rattle.history.specs.Calls.{tied-crash, Takes}
-use Rattle.history.specs.Reloaded.{shows}
-use Rattle.history.specs.Whole.{Trace, Loaded, books-append, books-loads}
-use Rattle.codec.specs.Codec.{Sized}
-use Rattle.codec.specs.Format.{format}
-use Rattle.history.specs.Loads.Superblocks.{resting, limits-room}
+use Rattle.history.specs.Ledger.{Call, writeJournal, journalWritten, commitLog, commitLocation, superblockWritten, readSuperblock, superblockRead, finishSuperblocks, finishOther, freeze, receive, add, askAgain, land, crash, nonsense, blocks, readJournal, journalRead, Kept, fresh, begin, tell, books, Shown, shown}
+use Rattle.history.specs.Statement.{tied-crash, Takes, shows, Loaded}
 use Rattle.history.specs.Demand.{demand-3}
-use Rattle.history.specs.Loads.Loads.{trace-append, crash-loads}
-use Rattle.history.specs.Example.Load.{g, table1, table2, sb0, first, init, init-super, Somewhere, onward, none-pending, day-counts, started, morning, came-up}
-use Rattle.history.specs.Example.Range.{range-write}
-use Rattle.history.specs.Example.States.{small, large, one-block, two-blocks, writing, sb3, slots3, j3, j3-size, two-few, s10, s11, s12, s13, s14, s15, s16, s17, s18, s19, s20, s21, s22, s23, s24, s25, s26, s27, s28, s29}
-use Rattle.history.specs.Example.Day.{k10, k11, k12, k13, k14, k15, k16, k17, k18, k19, k20, k21, k22, k23, k24, k25, k26, k27, k28, r28, k29}
+use Rattle.history.specs.Whole.Lists.{books-append, books-loads}
+use Rattle.history.specs.Loads.Comes.{loadCalls, taken}
+use Rattle.history.specs.Simulation.Relation.{superOf}
+use Rattle.history.specs.Loads.Superblocks.{resting, limits-room}
+use Rattle.codec.specs.Codec.{Sized}
+use Rattle.history.specs.Loads.Loads.{crash-loads}
+use Rattle.history.specs.Example.Setting.{g, table1, table2, sb0, first, init, init-super, small, large, one-block, two-blocks}
+use Rattle.history.specs.Example.Walk.{Walk, there, _then_, _refused-then_, walked}
+use Rattle.history.specs.Example.Morning.{d1, d2, d3, d4, d5, d6, d7, d8, d9}
+use Rattle.history.specs.Example.States.{sb2, slots2, j4, s29}
+use Rattle.history.specs.Example.Day.{d10, d11, d12, d13, d14, d15, d16, d17, d18, d19, again, d20, d21, d22, d23, d24, d25, d26, d27, d28, d29, early, outstanding, third-slot}
 
+-- the calls: a location commit before a location was received, a log commit with writes outstanding and nonsense are refused
+unfoldable pub day : List Call
+day =
+    readSuperblock false 1 ∷ superblockRead false 1 false ∷ askAgain false
+    ∷ readSuperblock false 1 ∷ superblockRead false 1 true ∷ readSuperblock true 1 ∷ superblockRead true 1 true ∷ finishSuperblocks ∷ finishOther
+    ∷ add large ∷ freeze ∷ add small ∷ writeJournal 1 none ∷ journalWritten 1 ∷ writeJournal 2 none ∷ journalWritten 2
+    ∷ commitLocation 9 ∷ receive table2 ∷ commitLocation 3 ∷ land true ∷ land true ∷ superblockWritten 3
+    ∷ add large ∷ writeJournal 4 (some 5) ∷ commitLog 8 ∷ journalWritten 5 ∷ journalWritten 4 ∷ commitLog 6 ∷ land false ∷ superblockWritten 6
+    ∷ add small ∷ nonsense ∷ writeJournal 7 none ∷ []
+
+unfoldable pub answers : List Bool
+answers =
+    true ∷ true ∷ true
+    ∷ true ∷ true ∷ true ∷ true ∷ true ∷ true
+    ∷ true ∷ true ∷ true ∷ true ∷ true ∷ true ∷ true
+    ∷ false ∷ true ∷ true ∷ true ∷ true ∷ true
+    ∷ true ∷ true ∷ false ∷ true ∷ true ∷ true ∷ true ∷ true
+    ∷ true ∷ false ∷ true ∷ []
+
+pub walk : Walk first day answers s29
+unfolding day answers
+walk =
+    d1 then d2 then d3 then d4 then d5 then d6 then d7 then d8 then d9
+    then d10 then d11 then d12 then d13 then d14 then d15 then d16
+    then early refused-then d17 then d18 then d19 then again then d20
+    then d21 then d22 then outstanding refused-then d23 then d24 then d25 then d26 then d27
+    then d28 then third-slot refused-then d29 then there
+
+-- the crash leaves block 1 unreadable, as its picture has it
 abbrev flying : Map JournalInterval
-flying = bind (bind no-keys 6 (interval 3 1)) 7 (interval 0 1)
+flying = bind no-keys 7 (interval 1 1)
 
--- what holds of both pieces holds of every write in flight
-both-pieces : (P : JournalInterval → Type 0) → P (interval 3 1) → P (interval 0 1) → Values P flying
-both-pieces P h k = values-bind P (bind no-keys 6 (interval 3 1)) 7 (interval 0 1) (values-bind P no-keys 6 (interval 3 1) (λ i v e. none-some refl e) h) k
-
-r29 : Somewhere s29
-r29 =
-    onward r28 (writeJournal 6 (some 7)) k29 (range-write g limits 6 (some 7))
-    (day-counts sb3 true 3 0 false none [] (join (join no-ids 6) 7) idle two-few none-pending)
-    (writing (both none) flying slots3 j3
-    (subst (AtMost 16) (sym (keys-bind (bind no-keys 6 (interval 3 1)) 7 (interval 0 1) ∙ ap (λ (s : Ids). join s 7) (keys-bind no-keys 6 (interval 3 1)))) two-few))
-
--- the crash leaves blocks 3 and 0 unreadable, as its picture has them
 abbrev picture : List (Option JournalBlock)
 picture = none ∷ none ∷ none ∷ none ∷ []
 
-abbrev j4 : List (Option JournalBlock)
-j4 = none ∷ getD j3 1 none ∷ getD j3 2 none ∷ none ∷ []
+abbrev j5 : List (Option JournalBlock)
+j5 = getD j4 0 none ∷ none ∷ getD j4 2 none ∷ getD j4 3 none ∷ []
 
 abbrev s30 : Y.Variables
-s30 = record { machine = M.Variables.LoadingSuperblock M.initial; disk = resting slots3 j4 }
+s30 = record { machine = M.Variables.LoadingSuperblock M.initial; disk = resting slots2 j5 }
 
-j4-sized : Sized j4
-j4-sized zero b e = none-some refl e
-j4-sized (suc zero) b e = r29 .1 .meets .disk .shape .block-size 1 b e
-j4-sized (suc (suc zero)) b e = r29 .1 .meets .disk .shape .block-size 2 b e
-j4-sized (suc (suc (suc zero))) b e = none-some refl e
-j4-sized (suc (suc (suc (suc i)))) b e = none-some refl e
+j5-sized : Sized j5
+j5-sized zero b e = d29 .1 .1 .meets .disk .shape .block-size 0 b e
+j5-sized (suc zero) b e = none-some refl e
+j5-sized (suc (suc zero)) b e = d29 .1 .1 .meets .disk .shape .block-size 2 b e
+j5-sized (suc (suc (suc zero))) b e = d29 .1 .1 .meets .disk .shape .block-size 3 b e
+j5-sized (suc (suc (suc (suc i)))) b e = none-some refl e
 
-kept-blocks : (i : ℕ) → i < 4 → JournalUntouched g i flying → getD j3 i none ≡ getD j4 i none
-kept-blocks zero h f = absurd (f 7 (interval 0 1) (bind-here (bind no-keys 6 (interval 3 1)) 7 (interval 0 1)) (inl (omega arith, omega arith)))
-kept-blocks (suc zero) h f = refl
+-- a block that the write does not cover
+untouched : (i : ℕ) → (InCyclicRange g i (interval 1 1) → ⊥) → JournalUntouched g i flying
+untouched i f = values-bind (λ (v : JournalInterval). InCyclicRange g i v → ⊥) no-keys 7 (interval 1 1) (λ id v e. none-some refl e) f
+
+kept-blocks : (i : ℕ) → i < 4 → JournalUntouched g i flying → getD j4 i none ≡ getD j5 i none
+kept-blocks zero h f = refl
+kept-blocks (suc zero) h f = absurd (f 7 (interval 1 1) (bind-here no-keys 7 (interval 1 1)) (inl (omega arith, omega arith)))
 kept-blocks (suc (suc zero)) h f = refl
-kept-blocks (suc (suc (suc zero))) h f = absurd (f 6 (interval 3 1) (bind-here no-keys 6 (interval 3 1)) (inl (omega arith, omega arith)))
+kept-blocks (suc (suc (suc zero))) h f = refl
 kept-blocks (suc (suc (suc (suc i)))) h f = absurd (omega arith)
 
-pictured-blocks : (i : ℕ) → i < 4 → (JournalUntouched g i flying → ⊥) → getD j4 i none ≡ getD picture i none
-pictured-blocks zero h f = refl
-pictured-blocks (suc zero) h f = absurd (f (both-pieces (λ (v : JournalInterval). InCyclicRange g 1 v → ⊥) (⊎-elim (λ r. omega arith) (λ r. omega arith)) (⊎-elim (λ r. omega arith) (λ r. omega arith))))
-pictured-blocks (suc (suc zero)) h f = absurd (f (both-pieces (λ (v : JournalInterval). InCyclicRange g 2 v → ⊥) (⊎-elim (λ r. omega arith) (λ r. omega arith)) (⊎-elim (λ r. omega arith) (λ r. omega arith))))
-pictured-blocks (suc (suc (suc zero))) h f = refl
+pictured-blocks : (i : ℕ) → i < 4 → (JournalUntouched g i flying → ⊥) → getD j5 i none ≡ getD picture i none
+pictured-blocks zero h f = absurd (f (untouched 0 (⊎-elim (λ r. omega arith) (λ r. omega arith))))
+pictured-blocks (suc zero) h f = refl
+pictured-blocks (suc (suc zero)) h f = absurd (f (untouched 2 (⊎-elim (λ r. omega arith) (λ r. omega arith))))
+pictured-blocks (suc (suc (suc zero))) h f = absurd (f (untouched 3 (⊎-elim (λ r. omega arith) (λ r. omega arith))))
 pictured-blocks (suc (suc (suc (suc i)))) h f = absurd (omega arith)
 
-k30 : Takes g format limits s29 s30 crash
-k30 =
+j4-size : length j4 ≡ 4
+j4-size = d29 .1 .1 .meets .disk .shape .size
+
+crashed : Takes g format limits s29 s30 crash
+crashed =
     record {
       event = CrashStep picture;
       tied = tied-crash;
       allowed =
           record {
-            meets = r29 .1 .meets;
+            meets = d29 .1 .1 .meets;
             step =
                 record {
                   machine = refl;
@@ -103,135 +129,59 @@ k30 =
                               no-superblock-writes = refl;
                               no-journal-writes = refl;
                               superblocks-kept = refl;
-                              journal-kept = record { size = sym j3-size; kept = λ i h f. kept-blocks i (omega (arith, h, j3-size)) f };
+                              journal-kept = record { size = sym j4-size; kept = λ i h f. kept-blocks i (omega (arith, h, j4-size)) f };
                             };
-                        from-picture = λ i h f. pictured-blocks i (omega (arith, h, j3-size)) f;
+                        from-picture = λ i h f. pictured-blocks i (omega (arith, h, j4-size)) f;
                       };
                 };
           };
     }
 
--- the calls of the second half: a location commit is refused before a location was received, and a log commit with writes outstanding
-unfoldable pub afternoon : List Call
-afternoon =
-    add large ∷ writeJournal 1 none ∷ journalWritten 1 ∷ commitLog 2 ∷ land true ∷ superblockWritten 2
-    ∷ freeze ∷ commitLocation 9 ∷ receive table2 ∷ commitLocation 3 ∷ land false ∷ land false ∷ superblockWritten 3
-    ∷ add small ∷ writeJournal 4 none ∷ journalWritten 4 ∷ commitLog 5 ∷ land true ∷ superblockWritten 5
-    ∷ add large ∷ writeJournal 6 (some 7) ∷ commitLog 8 ∷ []
+-- what its ledger keeps: counter 2, start 2, table 2, the range after the mark and the one that passes the ring's end
+abbrev kept : Superblock → Kept
+kept v = books g format (begin v) day answers .kept
 
-unfoldable pub afternoonAnswers : List Bool
-afternoonAnswers =
-    true ∷ true ∷ true ∷ true ∷ true ∷ true
-    ∷ true ∷ false ∷ true ∷ true ∷ true ∷ true ∷ true
-    ∷ true ∷ true ∷ true ∷ true ∷ true ∷ true
-    ∷ true ∷ true ∷ false ∷ []
+kept-is : superOf format (kept sb0) ≡ sb2
+unfolding day answers tell books blocks IncrementSuperblockCounter large
+kept-is = λ i. record { counter = 2; journalStart = (0 + (two-blocks i + 0)) % 4; journalLen = one-block i + (two-blocks i + 0); indirectionTableLoc = table2 }
 
-went : Trace g format limits started afternoon afternoonAnswers s29
-unfolding afternoon afternoonAnswers
-went = (
-  s10,
-  k10,
-  (
-    s11,
-    k11,
-    (
-      s12,
-      k12,
-      (
-        s13,
-        k13,
-        (
-          s14,
-          k14,
-          (
-            s15,
-            k15,
-            (
-              s16,
-              k16,
-              (
-                s16,
-                refl,
-                (
-                  s17,
-                  k17,
-                  (
-                    s18,
-                    k18,
-                    (
-                      s19,
-                      k19,
-                      (
-                        s20,
-                        k20,
-                        (
-                          s21,
-                          k21,
-                          (
-                            s22,
-                            k22,
-                            (
-                              s23,
-                              k23,
-                              (
-                                s24,
-                                k24,
-                                (
-                                  s25,
-                                  k25,
-                                  (
-                                    s26,
-                                    k26,
-                                    (
-                                      s27,
-                                      k27,
-                                      (s28, k28, (s29, k29, (s29, refl, refl))),
-                                    ),
-                                  ),
-                                ),
-                              ),
-                            ),
-                          ),
-                        ),
-                      ),
-                    ),
-                  ),
-                ),
-              ),
-            ),
-          ),
-        ),
-      ),
-    ),
-  ),
-)
-
--- what its ledger tells: counter 3, start 2, one block, the one short entry
+-- so it tells three blocks, the short entry and then the sixteen long ones
 abbrev pub told : Shown
-told = record { counter = 3; start = 2; loc = table2; blocks = 1; entries = small }
+told = record { counter = 2; start = 2; loc = table2; blocks = 3; entries = small ++ large }
 
-day-ledger : shown format (tell g format crash (books g format (begin sb0) (morning ++ afternoon) (replicate 9 true ++ afternoonAnswers))) ≡ told
-unfolding morning afternoon afternoonAnswers tell books blocks flat IncrementSuperblockCounter
-day-ledger =
-    λ i. record { counter = 3; start = (0 + (two-blocks i + 0)) % 4; loc = table2; blocks = one-block i + 0; entries = append-nil small i }
+told-is : shown format (fresh (kept sb0)) ≡ told
+unfolding day answers tell books blocks flat IncrementSuperblockCounter large
+told-is =
+    λ i. record { counter = 2; start = (0 + (two-blocks i + 0)) % 4; loc = table2; blocks = one-block i + (two-blocks i + 0); entries = small ++ append-nil large i }
+
+-- the load: both slots, and the interval in two pieces
+unfoldable pub evening : List Call
+evening =
+    readSuperblock false 1 ∷ superblockRead false 1 true ∷ readSuperblock true 1 ∷ superblockRead true 1 true ∷ finishSuperblocks
+    ∷ readJournal false 1 ∷ journalRead 1 true ∷ readJournal true 1 ∷ journalRead 1 true ∷ finishOther ∷ []
+
+two-pieces : loadCalls g sb2 ≡ evening
+unfolding evening JournalFrontInterval JournalBackInterval
+two-pieces = refl
 
 -- the day, loaded: the machine at Ready shows what the ledger tells
-pub example : (loading : List Call) × ((loaded : List Bool) × ((r : M.ReadyVariables) × (Loaded g format limits first (morning ++ afternoon) (replicate 9 true ++ afternoonAnswers) loading loaded r × (shows r ≡ told))))
-unfolding books
-example =
-    (up .0, (up .1 .0, (up .1 .1 .0, (up .1 .1 .1, shown-is))))
+pub example : (r : M.ReadyVariables) × Loaded g format limits first day answers evening (taken evening) r × (shows r ≡ told)
+unfolding books tell
+example = (up .0, up .1, shown-is)
   where
-    day : Trace g format limits first (morning ++ afternoon) (replicate 9 true ++ afternoonAnswers) s29
-    day = trace-append g format limits first started s29 morning (replicate 9 true) afternoon afternoonAnswers came-up went
+    calls-are : loadCalls g (superOf format (kept (SuperblockOfDisk g (first .disk) (init .wf)))) ≡ evening
+    calls-are = ap (λ (v : Superblock). loadCalls g (superOf format (kept v))) init-super ∙ ap (loadCalls g) kept-is ∙ two-pieces
 
-    up : (loading : List Call) × ((loaded : List Bool) × ((r : M.ReadyVariables) × Loaded g format limits first (morning ++ afternoon) (replicate 9 true ++ afternoonAnswers) loading loaded r))
-    up = crash-loads g format limits limits-room first table1 init (morning ++ afternoon) (replicate 9 true ++ afternoonAnswers) s29 s30 day k30 j4-sized
+    up : (r : M.ReadyVariables) × Loaded g format limits first day answers evening (taken evening) r
+    up =
+        subst (λ (xs : List Call). (r : M.ReadyVariables) × Loaded g format limits first day answers xs (taken xs) r) calls-are
+        (crash-loads g format limits limits-room first table1 init day answers s29 s30 (walked walk) crashed j5-sized)
 
-    shown-is : shows (up .1 .1 .0) ≡ told
+    shown-is : shows (up .0) ≡ told
     shown-is =
-        demand-3 g first table1 init (morning ++ afternoon) (replicate 9 true ++ afternoonAnswers) (up .0) (up .1 .0) (up .1 .1 .0) (morning ++ afternoon) (replicate 9 true ++ afternoonAnswers) (up .0) (up .1 .0)
-        (up .1 .1 .0) (up .1 .1 .1) (up .1 .1 .1) .first-shows
-        ∙ ap (shown format) (books-append g format limits (begin (SuperblockOfDisk g (first .disk) (init .wf))) first s29 (morning ++ afternoon) (replicate 9 true ++ afternoonAnswers) (crash ∷ up .0) (true ∷ up .1 .0) day)
-        ∙ ap (shown format) (books-loads g format limits (tell g format crash (books g format (begin (SuperblockOfDisk g (first .disk) (init .wf))) (morning ++ afternoon) (replicate 9 true ++ afternoonAnswers))) (up .0) (up .1 .0) (up .1 .1 .1 .only-loads))
-        ∙ ap (λ (v : Superblock). shown format (tell g format crash (books g format (begin v) (morning ++ afternoon) (replicate 9 true ++ afternoonAnswers)))) init-super
-        ∙ day-ledger
+        demand-3 g first table1 init day answers evening (taken evening) (up .0) day answers evening (taken evening) (up .0) (up .1) (up .1) .first-shows
+        ∙ ap (shown format)
+        (books-append g format limits (begin (SuperblockOfDisk g (first .disk) (init .wf))) first s29 day answers (crash ∷ evening) (true ∷ taken evening) (walked walk)
+        ∙ books-loads g format limits (fresh (kept (SuperblockOfDisk g (first .disk) (init .wf)))) evening (taken evening) (up .1 .only-loads))
+        ∙ ap (λ (v : Superblock). shown format (fresh (kept v))) init-super
+        ∙ told-is

@@ -6,11 +6,11 @@ use mathlib.Core.Path.{_≡_, refl, sym, _∙_, ap, subst}
 use mathlib.Core.Option.{Option, some, Option·some-injective}
 use native.Mathlib.Omega.{arith}
 use lib.Dec.{eqb}
-use Rattle.laws.specs.Choice.{by-eqb, true-false, false-true}
+use Rattle.laws.specs.Choice.{split-eq, by-eqb, true-false, false-true}
 use Rattle.layout.specs.declared.geometry.Geometry.{Geometry}
 use Rattle.superblock.specs.declared.superblock.Superblock.{Superblock}
 use Rattle.superblock.specs.Superblock.{IncrementSuperblockCounter, SelectSuperblock}
-use Rattle.superblock.specs.Laws.{WFSuperblock, selects-second, selects-first}
+use Rattle.superblock.specs.Laws.{WFSuperblock, increment-parity, increment-twice, selects-second, selects-first, selected-second, selected-first}
 use Rattle.laws.specs.Sets.{Two, at, put, at-put}
 use Rattle.source.specs.JournalCache.{selectedSecond}
 
@@ -22,44 +22,32 @@ abbrev pub parity : ℕ → Bool → ℕ
 parity counter which = (counter + bit which) % 2
 
 pub next-parity : (counter : ℕ) (which : Bool) → parity (IncrementSuperblockCounter counter) (not which) ≡ parity counter which
-unfolding IncrementSuperblockCounter
-next-parity counter false =
-    by-eqb (λ (n : ℕ). (n + 1) % 2 ≡ (counter + 0) % 2) counter 18446744073709551615 0 (counter + 1) (λ e. omega arith) (λ e. omega arith)
-next-parity counter true =
-    by-eqb (λ (n : ℕ). (n + 0) % 2 ≡ (counter + 1) % 2) counter 18446744073709551615 0 (counter + 1) (λ e. omega arith) (λ e. omega arith)
+next-parity counter false = omega (arith, increment-parity counter)
+next-parity counter true = omega (arith, increment-parity counter)
 
-pub parity-slot : (counter : ℕ) (a b : Bool) → parity counter a ≡ parity counter b → a ≡ b
-parity-slot counter false false e = refl
-parity-slot counter false true e = absurd (omega arith)
-parity-slot counter true false e = absurd (omega arith)
-parity-slot counter true true e = refl
-
--- no number is the second after itself
-pub never-twice : (c : ℕ) → c ≡ IncrementSuperblockCounter (IncrementSuperblockCounter c) → ⊥
-unfolding IncrementSuperblockCounter
-never-twice c =
-    by-eqb (λ (n : ℕ). c ≡ cond (eqb n 18446744073709551615) 0 (n + 1) → ⊥) c 18446744073709551615 0 (c + 1)
-    (λ e. by-eqb (λ (n : ℕ). c ≡ n → ⊥) 0 18446744073709551615 0 (0 + 1) (λ d. absurd (omega arith)) (λ d k. omega arith))
-    (λ e. by-eqb (λ (n : ℕ). c ≡ n → ⊥) (c + 1) 18446744073709551615 0 (c + 1 + 1) (λ d k. omega arith) (λ d k. omega arith))
+-- so of counters of one parity the slot is the same, of two parities the other
+pub slot-parity : (counter first : ℕ) (which slot : Bool) → parity counter which ≡ parity first slot → which ≡ cond (eqb (counter % 2) (first % 2)) slot (not slot)
+slot-parity counter first false false e = by-eqb (λ (b : Bool). false ≡ b) (counter % 2) (first % 2) false true (λ h. refl) (λ h. absurd (omega arith))
+slot-parity counter first false true e = by-eqb (λ (b : Bool). false ≡ b) (counter % 2) (first % 2) true false (λ h. absurd (omega arith)) (λ h. refl)
+slot-parity counter first true false e = by-eqb (λ (b : Bool). true ≡ b) (counter % 2) (first % 2) false true (λ h. absurd (omega arith)) (λ h. refl)
+slot-parity counter first true true e = by-eqb (λ (b : Bool). true ≡ b) (counter % 2) (first % 2) true false (λ h. refl) (λ h. absurd (omega arith))
 
 -- which of two superblocks is selected
 abbrev pub picked : Two Superblock → Bool
 picked t = selectedSecond (t .first) (t .second)
 
 pub picked-is : (t : Two Superblock) → SelectSuperblock (t .first) (t .second) ≡ at t (picked t)
-unfolding SelectSuperblock
-picked-is t = go (picked t)
-  where
-    go : (b : Bool) → cond b (t .second) (t .first) ≡ at t b
-    go true = refl
-    go false = refl
+picked-is t =
+    split-eq (t .second .counter) (IncrementSuperblockCounter (t .first .counter))
+    (λ e. let s = selects-second (t .first) (t .second) e in selected-second (t .first) (t .second) s ∙ sym (ap (λ (n : ℕ). at t (eqb n 1)) s))
+    (λ f. let s = selects-first (t .first) (t .second) f in selected-first (t .first) (t .second) s ∙ sym (ap (λ (n : ℕ). at t (eqb n 1)) s))
 
 pub picks-newer : (t : Two Superblock) (w : Bool) (v : Superblock) → picked t ≡ w → v .counter ≡ IncrementSuperblockCounter (at t w .counter)
     → picked (put t (not w) v) ≡ not w
 picks-newer t false v e h = ap (λ (n : ℕ). eqb n 1) (selects-second (t .first) v h)
 picks-newer t true v e h =
     ap (λ (n : ℕ). eqb n 1)
-    (selects-first v (t .second) (λ k. never-twice (t .second .counter) (k ∙ ap IncrementSuperblockCounter h)))
+    (selects-first v (t .second) (λ k. increment-twice (t .second .counter) (k ∙ ap IncrementSuperblockCounter h)))
 
 -- so the other slot does not hold it yet
 pub not-yet : (t : Two Superblock) (w : Bool) (v : Superblock) → picked t ≡ w → v .counter ≡ IncrementSuperblockCounter (at t w .counter)

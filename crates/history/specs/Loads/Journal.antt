@@ -2,17 +2,16 @@
 -- state on the way meets question 2.
 use mathlib.Core.Bool.{Bool, true, false, not}
 use mathlib.Core.Path.{_≡_, refl, sym, _∙_, ap, subst}
-use mathlib.Core.List.{List, [], _∷_}
+use mathlib.Core.List.{List}
 use mathlib.Core.Option.{Option, none, some, Option·some-injective}
 use lib.ListN.{length}
 use Rattle.laws.specs.Choice.{also, also-left, also-right}
-use Rattle.laws.specs.Fold.{every, every-append}
 use Rattle.layout.specs.declared.geometry.Geometry.{Geometry}
 use Rattle.interval.specs.declared.interval.JournalInterval.{JournalInterval}
 use Rattle.interval.specs.Interval.{interval, JournalFrontInterval, JournalBackInterval}
-use Rattle.interval.specs.Facts.{ValidJournalInterval, ContiguousJournalInterval}
+use Rattle.interval.specs.Facts.{ContiguousJournalInterval}
 use Rattle.interval.specs.Journal.{JournalBlock, CyclicSlice, fullRange, readable}
-use Rattle.interval.specs.Laws.{Contiguous?, parts-fit, sliceOf, front-back-slice}
+use Rattle.interval.specs.Laws.{sliceOf, front-back-slice}
 use Rattle.superblock.specs.declared.superblock.Superblock.{Superblock}
 use Rattle.superblock.specs.Laws.{WFSuperblock}
 use Rattle.laws.specs.Sets.{no-ids, no-keys, bind, AtMost, none-few, Two, both, at, put, none-some, same-value, at-both, at-put, bind-here}
@@ -26,29 +25,21 @@ use Rattle.source.specs.JournalSystem as Y
 use Rattle.source.specs.Limits.{Limits}
 use Rattle.source.specs.Meets.{MachineMeets, bindRead, awaitedJournalReads}
 use Rattle.source.specs.Departures.{Source, MachineStep}
+use Rattle.source.specs.Laws.Pieces.{spanned-valid, piece-contiguous}
 use Rattle.history.specs.Ledger.{readJournal, journalRead}
-use Rattle.codec.specs.Ranges.{whole, full-whole}
+use Rattle.codec.specs.Ranges.{whole, full-append, full-whole}
 use Rattle.history.specs.Journal.Slots.{Slots, slots-wf}
 use Rattle.history.specs.Simulation.Relation.{Pieces}
 use Rattle.history.specs.Simulation.Loading.{pieces-put}
-use Rattle.history.specs.Calls.{tied-page, tied-paged, Takes}
-use Rattle.history.specs.Whole.{Trace}
+use Rattle.history.specs.Statement.{tied-page, tied-paged, Takes, loads}
+use Rattle.history.specs.Loads.Comes.{pieceCalls, Comes, here, by}
 use Rattle.history.specs.Loads.Superblocks.{reading, resting, Room, disk-meets, joined, one, one-only, one-differs, one-answered}
 
 -- the pieces of a superblock's interval
 module _ (g : Geometry) (j : List (Option JournalBlock)) (v : Superblock) (wf : WFSuperblock g v) (size : length j ≡ g .blocks) where
-  spanned-valid : ValidJournalInterval g (interval (v .journalStart) (v .journalLen))
-  spanned-valid = record { start-in = wf .start-in; len-in = wf .len-in }
-
-  -- each is contiguous
-  pub piece-contiguous : (which : Bool) (u : JournalInterval) → journalIntervalOfSuperblock g which v ≡ some u → ContiguousJournalInterval g u
-  piece-contiguous false u e = subst (Contiguous? g) e (parts-fit g (interval (v .journalStart) (v .journalLen)) spanned-valid .front-contiguous)
-  piece-contiguous true u e = subst (Contiguous? g) e (parts-fit g (interval (v .journalStart) (v .journalLen)) spanned-valid .back-contiguous)
-
-  -- and readable where the whole interval is
+  -- each is readable where the whole interval is
   pub piece-full : (which : Bool) (u : JournalInterval) → fullRange (CyclicSlice g j (interval (v .journalStart) (v .journalLen))) ≡ true
       → journalIntervalOfSuperblock g which v ≡ some u → fullRange (CyclicSlice g j u) ≡ true
-  unfolding fullRange
   piece-full which u h e = go which e
     where
       front : List (Option JournalBlock)
@@ -57,12 +48,12 @@ module _ (g : Geometry) (j : List (Option JournalBlock)) (v : Superblock) (wf : 
       back : List (Option JournalBlock)
       back = sliceOf g j (JournalBackInterval g (v .journalStart) (v .journalLen))
 
-      all : also (every readable front) (every readable back) ≡ true
-      all = sym (every-append readable front back) ∙ ap (every readable) (sym (front-back-slice g j size (interval (v .journalStart) (v .journalLen)) spanned-valid)) ∙ h
+      all : also (fullRange front) (fullRange back) ≡ true
+      all = sym (full-append front back) ∙ ap fullRange (sym (front-back-slice g j size (interval (v .journalStart) (v .journalLen)) (spanned-valid g v wf))) ∙ h
 
-      go : (which : Bool) → journalIntervalOfSuperblock g which v ≡ some u → every readable (CyclicSlice g j u) ≡ true
-      go false e = ap (λ (o : Option JournalInterval). every readable (sliceOf g j o)) (sym e) ∙ also-left (every readable front) (every readable back) all
-      go true e = ap (λ (o : Option JournalInterval). every readable (sliceOf g j o)) (sym e) ∙ also-right (every readable front) (every readable back) all
+      go : (which : Bool) → journalIntervalOfSuperblock g which v ≡ some u → fullRange (CyclicSlice g j u) ≡ true
+      go false e = ap (λ (o : Option JournalInterval). fullRange (sliceOf g j o)) (sym e) ∙ also-left (fullRange front) (fullRange back) all
+      go true e = ap (λ (o : Option JournalInterval). fullRange (sliceOf g j o)) (sym e) ∙ also-right (fullRange front) (fullRange back) all
 
 abbrev pub otherAt : Superblock → Bool → Two (Option ReqId) → Two (Option JournalRange) → M.Variables
 otherAt v w reads pieces = M.Variables.LoadingOther (record { superblock = v; whichSuperblock = w; journalReads = reads; journalPieces = pieces; syncReqs = no-keys })
@@ -100,7 +91,7 @@ module _ (g : Geometry) (C : Codec) (L : Limits) (room : Room L) (slots : Two (O
             record {
               reads-differ = differ;
               read-or-in = λ b id jr p q. none-some (asked b id p .0) q;
-              piece-size = λ b jr u p q. sized-held g j size sized u (piece-contiguous g j v wf size b u q .valid) jr (held b jr u p q);
+              piece-size = λ b jr u p q. sized-held g j size sized u (piece-contiguous g v wf b u q .valid) jr (held b jr u p q);
             };
       }
 
@@ -112,12 +103,13 @@ module _ (g : Geometry) (C : Codec) (L : Limits) (room : Room L) (slots : Two (O
   -- a piece is asked for and answered whole
   pub page-read : (which : Bool) (u : JournalInterval) (pieces : Two (Option JournalRange)) → journalIntervalOfSuperblock g which v ≡ some u → at pieces which ≡ none
       → Owned g v pieces → Pieces g v pieces j
-      → Trace g C L (record { machine = otherAt v w (both none) pieces; disk = resting slots j }) (readJournal which 1 ∷ journalRead 1 true ∷ []) (true ∷ true ∷ [])
+      → Comes g C L (record { machine = otherAt v w (both none) pieces; disk = resting slots j }) (pieceCalls which (some u))
       (record { machine = otherAt v w (both none) (put pieces which (some (Disk-JournalRange g j u))); disk = resting slots j })
-  page-read which u pieces e unread owned held = (asked, ask, (_, answer, refl))
+  unfolding loads
+  page-read which u pieces e unread owned held = by ask refl (by answer refl here)
     where
       in-place : ContiguousJournalInterval g u
-      in-place = piece-contiguous g j v wf size which u e
+      in-place = piece-contiguous g v wf which u e
 
       asked : Y.Variables
       asked = record { machine = otherAt v w (one which) pieces; disk = reading (both no-ids) (bind no-keys 1 u) slots j }

@@ -4,7 +4,7 @@
 use Prim.Native.Nat.{ℕ}
 use mathlib.Core.Bool.{Bool, true, false, not}
 use mathlib.Core.Path.{_≡_, refl, sym, _∙_, ap, subst}
-use mathlib.Core.List.{List, [], _∷_, _++_}
+use mathlib.Core.List.{List, [], _∷_}
 use mathlib.Core.Option.{Option, none, some}
 use mathlib.Core.Logic.{inl, inr}
 use lib.ListN.{length}
@@ -25,47 +25,18 @@ use Rattle.source.specs.JournalSystem as Y
 use Rattle.source.specs.JournalSystem.{SuperblockOfDisk}
 use Rattle.source.specs.Limits.{Limits}
 use Rattle.source.specs.Departures.{Event, Source, MachineStep, Allowed}
-use Rattle.history.specs.Ledger.{Call, crash, readSuperblock, superblockRead, finishSuperblocks, finishOther, readJournal, journalRead, Ledger, begin, books, tell, shown}
+use Rattle.history.specs.Ledger.{Call, crash, finishSuperblocks, finishOther, Ledger, begin, books, tell, shown}
 use Rattle.codec.specs.Ranges.{codes, whole, whole-full, whole-same, length-codes, parse-codes}
 use Rattle.history.specs.Journal.Slots.{Slots, picked-is, slots-wf}
 use Rattle.history.specs.Simulation.Relation.{superOf, Pieces, Sim}
-use Rattle.history.specs.Calls.{Tied, tied-finish-superblocks, tied-finish-other, tied-crash, Takes}
+use Rattle.history.specs.Statement.{Tied, tied-finish-superblocks, tied-finish-other, tied-crash, Takes, loads, readyBy, Trace, Loaded}
 use Rattle.history.specs.Simulation.Steps.{sim-step}
-use Rattle.history.specs.Reloaded.{loads, readyBy, loaded-whole}
-use Rattle.history.specs.Whole.{Trace, OnlyLoads, Loaded, sim-run, firstParity, init-sim}
+use Rattle.history.specs.Whole.Reloaded.{loaded-whole}
+use Rattle.history.specs.Whole.Lists.{sim-run}
+use Rattle.history.specs.Whole.First.{firstParity, init-sim}
+use Rattle.history.specs.Loads.Comes.{slotCalls, pieceCalls, loadCalls, taken, Comes, here, by, comes-then, comes-trace, comes-loads}
 use Rattle.history.specs.Loads.Superblocks.{resting, Room, disk-meets, joined, Read, read-put, superblocksAt, machine-superblocks, slot-read}
 use Rattle.history.specs.Loads.Journal.{otherAt, Owned, machine-other, page-read, page-held, page-owned}
-
--- lists one after another
-pub trace-append : (g : Geometry) (C : Codec) (L : Limits) (s u t : Y.Variables) (xs : List Call) (bs : List Bool) (ys : List Call) (cs : List Bool) → Trace g C L s xs bs u → Trace g C L u ys cs t
-    → Trace g C L s (xs ++ ys) (bs ++ cs) t
-trace-append g C L s u t [] [] ys cs h k = subst (λ (x : Y.Variables). Trace g C L x ys cs t) h k
-trace-append g C L s u t [] (b ∷ bs) ys cs h k = absurd h
-trace-append g C L s u t (x ∷ xs) [] ys cs h k = absurd h
-trace-append g C L s u t (x ∷ xs) (b ∷ bs) ys cs h k = (h .0, h .1, trace-append g C L (h .0) u t xs bs ys cs (h .2) k)
-
-only-append : (g : Geometry) (C : Codec) (L : Limits) (s u : Y.Variables) (xs : List Call) (bs : List Bool) (ys : List Call) (cs : List Bool) → Trace g C L s xs bs u → OnlyLoads xs bs → OnlyLoads ys cs
-    → OnlyLoads (xs ++ ys) (bs ++ cs)
-only-append g C L s u [] [] ys cs h p q = q
-only-append g C L s u [] (b ∷ bs) ys cs h p q = absurd h
-only-append g C L s u (x ∷ xs) [] ys cs h p q = absurd h
-only-append g C L s u (x ∷ xs) (b ∷ bs) ys cs h p q = (p .0, only-append g C L (h .0) u xs bs ys cs (h .2) (p .1) q)
-
--- some loading steps lead from one state to another
-pub record Comes (g : Geometry) (C : Codec) (L : Limits) (s t : Y.Variables) : Type 0 where
-  pub calls : List Call
-  pub answers : List Bool
-  pub trace : Trace g C L s calls answers t
-  pub only-loads : OnlyLoads calls answers
-
-then : {g : Geometry} {C : Codec} {L : Limits} {s u t : Y.Variables} → Comes g C L s u → Comes g C L u t → Comes g C L s t
-then {g = g} {C = C} {L = L} {s = s} {u = u} {t = t} a b =
-    record {
-      calls = a .calls ++ b .calls;
-      answers = a .answers ++ b .answers;
-      trace = trace-append g C L s u t (a .calls) (a .answers) (b .calls) (b .answers) (a .trace) (b .trace);
-      only-loads = only-append g C L s u (a .calls) (a .answers) (b .calls) (b .answers) (a .trace) (a .only-loads) (b .only-loads);
-    }
 
 module _ (g : Geometry) (C : Codec) (L : Limits) (room : Room L) (slots : Two (Option Superblock)) (j : List (Option JournalBlock)) (w : Bool) (v : Superblock)
     (selected : Slots g slots w v) (size : length j ≡ g .blocks) (sized : Sized j) (full : fullRange (CyclicSlice g j (interval (v .journalStart) (v .journalLen))) ≡ true) where
@@ -75,61 +46,42 @@ module _ (g : Geometry) (C : Codec) (L : Limits) (room : Room L) (slots : Two (O
   none-superblocks : (b : Bool) → AtMost (L .superblockReads) (at (both no-ids) b)
   none-superblocks b = subst (AtMost (L .superblockReads)) (sym (at-both no-ids b)) (none-few (L .superblockReads))
 
-  -- a slot
-  comes-slot : (which : Bool) (results : Two SuperblockReadResult) → Read results (selected .values) → at results which ≡ SuperblockUnfinished
-      → Comes g C L (at-rest (superblocksAt (both none) results)) (at-rest (superblocksAt (both none) (put results which (SuperblockSuccess (at (selected .values) which)))))
-  unfolding loads
-  comes-slot which results read unread =
-      record {
-        calls = readSuperblock which 1 ∷ superblockRead which 1 true ∷ [];
-        answers = true ∷ true ∷ [];
-        trace = slot-read g C L room slots j w v selected size sized which results read unread;
-        only-loads = (λ e. refl, (λ e. refl, tt));
-      }
-
   -- both slots were read: the selected superblock
-  comes-selected : Comes g C L (at-rest (superblocksAt (both none) (record { first = SuperblockSuccess (selected .values .first); second = SuperblockSuccess (selected .values .second) })))
+  comes-selected : Comes g C L (at-rest (superblocksAt (both none) (record { first = SuperblockSuccess (selected .values .first); second = SuperblockSuccess (selected .values .second) }))) (finishSuperblocks ∷ [])
       (at-rest (otherAt v w (both none) (both none)))
   unfolding loads
   comes-selected =
-      record {
-        calls = finishSuperblocks ∷ [];
-        answers = true ∷ [];
-        trace = (
-          _,
-          record {
-            event = MachineStep NoDiskOp (Source FinishLoadingSuperblockPhaseStep);
-            tied = tied-finish-superblocks;
-            allowed =
-                record {
-                  meets =
-                      record {
-                        machine = machine-superblocks g C L room slots j w v selected size sized (both none) both-read both-in (λ b id e. none-some (at-both none b) e) (λ id p q. none-some refl p);
-                        disk = disk-meets g L slots j w v selected size sized (both no-ids) no-keys none-superblocks (none-few (L .journalReads)) (λ id u e. none-some refl e);
-                        joined = joined g L slots j w v selected size sized (both no-ids) no-keys (superblocksAt (both none) both-read) refl refl refl refl;
-                      };
-                  step =
-                      record {
-                        machine =
-                            record {
-                              op = refl;
-                              superblock1 = selected .values .first;
-                              success1 = refl;
-                              superblock2 = selected .values .second;
-                              success2 = refl;
-                              one-success = inl refl;
-                              next = λ i. otherAt (sym is i) (sym (selected .picks) i) (both none) (both none);
-                              loc = SelectSuperblock (selected .values .first) (selected .values .second) .indirectionTableLoc;
-                              loc-is = refl;
-                            };
-                        disk = record { next = refl };
-                      };
-                };
-          },
-          refl,
-        );
-        only-loads = (λ e. refl, tt);
-      }
+      by
+      (record {
+        event = MachineStep NoDiskOp (Source FinishLoadingSuperblockPhaseStep);
+        tied = tied-finish-superblocks;
+        allowed =
+            record {
+              meets =
+                  record {
+                    machine = machine-superblocks g C L room slots j w v selected size sized (both none) both-read both-in (λ b id e. none-some (at-both none b) e) (λ id p q. none-some refl p);
+                    disk = disk-meets g L slots j w v selected size sized (both no-ids) no-keys none-superblocks (none-few (L .journalReads)) (λ id u e. none-some refl e);
+                    joined = joined g L slots j w v selected size sized (both no-ids) no-keys (superblocksAt (both none) both-read) refl refl refl refl;
+                  };
+              step =
+                  record {
+                    machine =
+                        record {
+                          op = refl;
+                          superblock1 = selected .values .first;
+                          success1 = refl;
+                          superblock2 = selected .values .second;
+                          success2 = refl;
+                          one-success = inl refl;
+                          next = λ i. otherAt (sym is i) (sym (selected .picks) i) (both none) (both none);
+                          loc = SelectSuperblock (selected .values .first) (selected .values .second) .indirectionTableLoc;
+                          loc-is = refl;
+                        };
+                    disk = record { next = refl };
+                  };
+            };
+      })
+      refl here
     where
       both-read : Two SuperblockReadResult
       both-read = record { first = SuperblockSuccess (selected .values .first); second = SuperblockSuccess (selected .values .second) }
@@ -144,21 +96,20 @@ module _ (g : Geometry) (C : Codec) (L : Limits) (room : Room L) (slots : Two (O
   -- a piece, where there is one
   record Paging (which : Bool) (pieces : Two (Option JournalRange)) : Type 0 where
     pieces′ : Two (Option JournalRange)
-    comes : Comes g C L (at-rest (otherAt v w (both none) pieces)) (at-rest (otherAt v w (both none) pieces′))
+    comes : Comes g C L (at-rest (otherAt v w (both none) pieces)) (pieceCalls which (journalIntervalOfSuperblock g which v)) (at-rest (otherAt v w (both none) pieces′))
     owned : Owned g v pieces′
     held : Pieces g v pieces′ j
     has : (u : JournalInterval) → journalIntervalOfSuperblock g which v ≡ some u → (jr : JournalRange) × (at pieces′ which ≡ some jr)
     others : at pieces′ (not which) ≡ at pieces (not which)
 
   pages : (which : Bool) (pieces : Two (Option JournalRange)) → at pieces which ≡ none → Owned g v pieces → Pieces g v pieces j → Paging which pieces
-  unfolding loads
   pages which pieces unread owned held = go (journalIntervalOfSuperblock g which v) refl
     where
       go : (o : Option JournalInterval) → journalIntervalOfSuperblock g which v ≡ o → Paging which pieces
       go none e =
           record {
             pieces′ = pieces;
-            comes = record { calls = []; answers = []; trace = refl; only-loads = tt };
+            comes = subst (λ (o : Option JournalInterval). Comes g C L (at-rest (otherAt v w (both none) pieces)) (pieceCalls which o) (at-rest (otherAt v w (both none) pieces))) (sym e) here;
             owned = owned;
             held = held;
             has = λ u q. none-some e q;
@@ -168,12 +119,8 @@ module _ (g : Geometry) (C : Codec) (L : Limits) (room : Room L) (slots : Two (O
           record {
             pieces′ = put pieces which (some (Disk-JournalRange g j u));
             comes =
-                record {
-                  calls = readJournal which 1 ∷ journalRead 1 true ∷ [];
-                  answers = true ∷ true ∷ [];
-                  trace = page-read g C L room slots j w v selected size sized full which u pieces e unread owned held;
-                  only-loads = (λ q. refl, (λ q. refl, tt));
-                };
+                subst (λ (o : Option JournalInterval). Comes g C L (at-rest (otherAt v w (both none) pieces)) (pieceCalls which o) (at-rest (otherAt v w (both none) (put pieces which (some (Disk-JournalRange g j u)))))) (sym e)
+                (page-read g C L room slots j w v selected size sized full which u pieces e unread owned held);
             owned = page-owned g C L room slots j w v selected size sized full which u pieces e owned;
             held = page-held g C L room slots j w v selected size sized full which u pieces e held;
             has = λ x q. (Disk-JournalRange g j u, at-put pieces which (some (Disk-JournalRange g j u)));
@@ -195,67 +142,60 @@ module _ (g : Geometry) (C : Codec) (L : Limits) (room : Room L) (p : ℕ) (slot
   -- the finishing step: the pieces parse to the ledger's entries
   comes-ready : (pieces : Two (Option JournalRange)) → Owned g (superOf C (l .kept)) pieces → Pieces g (superOf C (l .kept)) pieces j
       → ((which : Bool) (u : JournalInterval) → journalIntervalOfSuperblock g which (superOf C (l .kept)) ≡ some u → (jr : JournalRange) × (at pieces which ≡ some jr))
-      → Comes g C L (record { machine = otherAt (superOf C (l .kept)) (z .slot) (both none) pieces; disk = resting slots j })
+      → Comes g C L (record { machine = otherAt (superOf C (l .kept)) (z .slot) (both none) pieces; disk = resting slots j }) (finishOther ∷ [])
       (record { machine = M.Variables.Ready (readyBy (shown C l) (z .slot)); disk = resting slots j })
   unfolding loads
   comes-ready pieces owned held has =
-      record {
-        calls = finishOther ∷ [];
-        answers = true ∷ [];
-        trace = (
-          record { machine = M.Variables.Ready (readyBy (shown C l) (z .slot)); disk = resting slots j },
-          record {
-            event = MachineStep NoDiskOp (Source FinishLoadingOtherPhaseStep);
-            tied = tied-finish-other;
-            allowed =
-                record {
-                  meets =
-                      record {
-                        machine =
-                            machine-other g C L room slots j (z .slot) (superOf C (l .kept)) selected (z .disk .size) sized full (both none) pieces owned held
-                            (λ b id q. none-some (at-both none b) q) (λ id a b. none-some refl a);
-                        disk =
-                            disk-meets g L slots j (z .slot) (superOf C (l .kept)) selected (z .disk .size) sized (both no-ids) no-keys
-                            (none-superblocks g C L room slots j (z .slot) (superOf C (l .kept)) selected (z .disk .size) sized full) (none-few (L .journalReads)) (λ id u e. none-some refl e);
-                        joined =
-                            joined g L slots j (z .slot) (superOf C (l .kept)) selected (z .disk .size) sized (both no-ids) no-keys
-                            (otherAt (superOf C (l .kept)) (z .slot) (both none) pieces) refl refl refl refl;
-                      };
-                  step =
-                      record {
-                        machine =
-                            record {
-                              source =
-                                  record {
-                                    op = refl;
-                                    start-in = wf .start-in;
-                                    len-in = wf .len-in;
-                                    front-in = has false;
-                                    back-in = has true;
-                                    superblockWrite-is = refl;
-                                    inMemoryJournalFrozen-is = refl;
-                                    inMemoryJournal-is = refl;
-                                    outstandingJournalWrites-is = refl;
-                                    writtenJournalLen-is = refl;
-                                    parses = ap (C .parseJournalRange) blocks-are ∙ parse-codes C (l .kept .ranges) (z .disk .good);
-                                    superblock-is = refl;
-                                    whichSuperblock-is = refl;
-                                    newSuperblock-is = refl;
-                                    syncReqs-is = refl;
-                                    isFrozen-is = refl;
-                                    frozenLoc-is = refl;
-                                    commitStatus-is = refl;
-                                  };
-                              position-is = refl;
-                            };
-                        disk = record { next = refl };
-                      };
-                };
-          },
-          refl,
-        );
-        only-loads = (λ e. refl, tt);
-      }
+      by {u = record { machine = M.Variables.Ready (readyBy (shown C l) (z .slot)); disk = resting slots j }}
+      (record {
+        event = MachineStep NoDiskOp (Source FinishLoadingOtherPhaseStep);
+        tied = tied-finish-other;
+        allowed =
+            record {
+              meets =
+                  record {
+                    machine =
+                        machine-other g C L room slots j (z .slot) (superOf C (l .kept)) selected (z .disk .size) sized full (both none) pieces owned held
+                        (λ b id q. none-some (at-both none b) q) (λ id a b. none-some refl a);
+                    disk =
+                        disk-meets g L slots j (z .slot) (superOf C (l .kept)) selected (z .disk .size) sized (both no-ids) no-keys
+                        (none-superblocks g C L room slots j (z .slot) (superOf C (l .kept)) selected (z .disk .size) sized full) (none-few (L .journalReads)) (λ id u e. none-some refl e);
+                    joined =
+                        joined g L slots j (z .slot) (superOf C (l .kept)) selected (z .disk .size) sized (both no-ids) no-keys
+                        (otherAt (superOf C (l .kept)) (z .slot) (both none) pieces) refl refl refl refl;
+                  };
+              step =
+                  record {
+                    machine =
+                        record {
+                          source =
+                              record {
+                                op = refl;
+                                start-in = wf .start-in;
+                                len-in = wf .len-in;
+                                front-in = has false;
+                                back-in = has true;
+                                superblockWrite-is = refl;
+                                inMemoryJournalFrozen-is = refl;
+                                inMemoryJournal-is = refl;
+                                outstandingJournalWrites-is = refl;
+                                writtenJournalLen-is = refl;
+                                parses = ap (C .parseJournalRange) blocks-are ∙ parse-codes C (l .kept .ranges) (z .disk .good);
+                                superblock-is = refl;
+                                whichSuperblock-is = refl;
+                                newSuperblock-is = refl;
+                                syncReqs-is = refl;
+                                isFrozen-is = refl;
+                                frozenLoc-is = refl;
+                                commitStatus-is = refl;
+                              };
+                          position-is = refl;
+                        };
+                    disk = record { next = refl };
+                  };
+            };
+      })
+      refl here
     where
       wf : WFSuperblock g (superOf C (l .kept))
       wf = slots-wf g slots (z .slot) (superOf C (l .kept)) selected
@@ -266,18 +206,18 @@ module _ (g : Geometry) (C : Codec) (L : Limits) (room : Room L) (p : ℕ) (slot
       blocks-are : loaded g loading ≡ codes C (l .kept .ranges)
       blocks-are = whole-same (loaded g loading) (codes C (l .kept .ranges)) (loaded-whole g loading j (z .disk .size) (wf .start-in) (wf .len-in) held (has false) (has true) ∙ spans)
 
-  pub comes-up : Comes g C L (record { machine = M.Variables.LoadingSuperblock M.initial; disk = resting slots j })
+  pub comes-up : Comes g C L (record { machine = M.Variables.LoadingSuperblock M.initial; disk = resting slots j }) (loadCalls g (superOf C (l .kept)))
       (record { machine = M.Variables.Ready (readyBy (shown C l) (z .slot)); disk = resting slots j })
   comes-up =
-      then (slot-of false (both SuperblockUnfinished) unread refl)
-      (then (slot-of true (put (both SuperblockUnfinished) false (SuperblockSuccess (selected .values .first))) (read-put (both SuperblockUnfinished) (selected .values) false unread) refl)
-      (then (comes-selected g C L room slots j (z .slot) (superOf C (l .kept)) selected (z .disk .size) sized full)
-      (then (front .comes) (then (back .comes) (comes-ready (back .pieces′) (back .owned) (back .held) has)))))
+      comes-then (slot-of false (both SuperblockUnfinished) unread refl)
+      (comes-then (slot-of true (put (both SuperblockUnfinished) false (SuperblockSuccess (selected .values .first))) (read-put (both SuperblockUnfinished) (selected .values) false unread) refl)
+      (comes-then (comes-selected g C L room slots j (z .slot) (superOf C (l .kept)) selected (z .disk .size) sized full)
+      (comes-then (front .comes) (comes-then (back .comes) (comes-ready (back .pieces′) (back .owned) (back .held) has)))))
     where
       slot-of : (which : Bool) (results : Two SuperblockReadResult) → Read results (selected .values) → at results which ≡ SuperblockUnfinished
-          → Comes g C L (record { machine = superblocksAt (both none) results; disk = resting slots j })
+          → Comes g C L (record { machine = superblocksAt (both none) results; disk = resting slots j }) (slotCalls which)
           (record { machine = superblocksAt (both none) (put results which (SuperblockSuccess (at (selected .values) which))); disk = resting slots j })
-      slot-of = comes-slot g C L room slots j (z .slot) (superOf C (l .kept)) selected (z .disk .size) sized full
+      slot-of = slot-read g C L room slots j (z .slot) (superOf C (l .kept)) selected (z .disk .size) sized
 
       unread : Read (both SuperblockUnfinished) (selected .values)
       unread b = inl (at-both SuperblockUnfinished b)
@@ -314,27 +254,23 @@ crash-rests g C L s t e tied-crash a =
     }
 
 -- so every history that ends with a crash that is taken can be loaded
-pub crash-loads : (g : Geometry) (C : Codec) (L : Limits) → Room L → (first : Y.Variables) (loc : Location) → Y.Init g first loc → (calls : List Call) (answers : List Bool) (before after : Y.Variables)
+pub crash-loads : (g : Geometry) (C : Codec) (L : Limits) → Room L → (first : Y.Variables) (loc : Location) (i : Y.Init g first loc) (calls : List Call) (answers : List Bool) (before after : Y.Variables)
     → Trace g C L first calls answers before → Takes g C L before after crash → Sized (after .disk .journal)
-    → (loading : List Call) × ((loaded : List Bool) × ((r : M.ReadyVariables) × Loaded g C L first calls answers loading loaded r))
+    → let v = superOf C (books g C (begin (SuperblockOfDisk g (first .disk) (i .wf))) calls answers .kept) in
+    (r : M.ReadyVariables) × Loaded g C L first calls answers (loadCalls g v) (taken (loadCalls g v)) r
+unfolding tell
 crash-loads g C L room first loc i calls answers before after ran crashed sized = (
-  up .calls,
-  (
-    up .answers,
-    (
-      readyBy (shown C l) (z .slot),
-      record {
-        before = before;
-        ran = ran;
-        after = after;
-        crashed = crashed;
-        end = record { machine = M.Variables.Ready (readyBy (shown C l) (z .slot)); disk = resting slots j };
-        load = subst (λ (s : Y.Variables). Trace g C L s (up .calls) (up .answers) (record { machine = M.Variables.Ready (readyBy (shown C l) (z .slot)); disk = resting slots j })) (sym rests) (up .trace);
-        only-loads = up .only-loads;
-        ready = refl;
-      },
-    ),
-  ),
+  readyBy (shown C l) (z .slot),
+  record {
+    before = before;
+    ran = ran;
+    after = after;
+    crashed = crashed;
+    end = ready;
+    load = subst (λ (s : Y.Variables). Trace g C L s xs (taken xs) ready) (sym rests) (comes-trace up);
+    only-loads = comes-loads up;
+    ready = refl;
+  },
 )
   where
     p : ℕ
@@ -352,7 +288,13 @@ crash-loads g C L room first loc i calls answers before after ran crashed sized 
     j : List (Option JournalBlock)
     j = after .disk .journal
 
-    rests : after ≡ record { machine = M.Variables.LoadingSuperblock M.initial; disk = resting slots j }
+    xs : List Call
+    xs = loadCalls g (superOf C (l .kept))
+
+    rest : Y.Variables
+    rest = record { machine = M.Variables.LoadingSuperblock M.initial; disk = resting slots j }
+
+    rests : after ≡ rest
     rests = crash-rests g C L before after (crashed .event) (crashed .tied) (crashed .allowed)
 
     z : Sim g C p (M.Variables.LoadingSuperblock M.initial) (resting slots j) l
@@ -360,6 +302,8 @@ crash-loads g C L room first loc i calls answers before after ran crashed sized 
         subst (λ (s : Y.Variables). Sim g C p (s .machine) (s .disk) l) rests
         (sim-step g C L p before after l₁ (sim-run g C L p first before (begin (SuperblockOfDisk g (first .disk) (i .wf))) calls answers (init-sim g C first loc i) ran) crash crashed)
 
-    up : Comes g C L (record { machine = M.Variables.LoadingSuperblock M.initial; disk = resting slots j })
-        (record { machine = M.Variables.Ready (readyBy (shown C l) (z .slot)); disk = resting slots j })
+    ready : Y.Variables
+    ready = record { machine = M.Variables.Ready (readyBy (shown C l) (z .slot)); disk = resting slots j }
+
+    up : Comes g C L rest xs ready
     up = comes-up g C L room p slots j l z sized

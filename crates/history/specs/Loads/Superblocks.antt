@@ -2,7 +2,7 @@
 use Prim.Native.Nat.{ℕ, _≤_}
 use mathlib.Core.Bool.{Bool, true, false, cond, not}
 use mathlib.Core.Path.{_≡_, refl, sym, _∙_, ap, subst}
-use mathlib.Core.List.{List, [], _∷_}
+use mathlib.Core.List.{List}
 use mathlib.Core.Option.{Option, none, some}
 use mathlib.Core.Logic.{_⊎_, inr, ⊎-elim}
 use native.Mathlib.Omega.{arith}
@@ -26,8 +26,8 @@ use Rattle.source.specs.Meets.{DiskMeets, Joined, MachineMeets, awaitedSuperblo
 use Rattle.source.specs.Departures.{Source, MachineStep}
 use Rattle.history.specs.Ledger.{readSuperblock, superblockRead}
 use Rattle.history.specs.Journal.Slots.{Slots}
-use Rattle.history.specs.Calls.{tied-read, tied-superblock, Takes}
-use Rattle.history.specs.Whole.{Trace}
+use Rattle.history.specs.Statement.{tied-read, tied-superblock, Takes, loads}
+use Rattle.history.specs.Loads.Comes.{slotCalls, Comes, here, by}
 
 -- a disk that awaits some reads and no write
 abbrev pub reading : Two Ids → Map JournalInterval → Two (Option Superblock) → List (Option JournalBlock) → D.Variables
@@ -216,10 +216,7 @@ module _ (g : Geometry) (C : Codec) (L : Limits) (room : Room L) (slots : Two (O
       whole-read = ap (λ (b : Bool). cond b (SuperblockSuccess x) SuperblockCorruption) (facts-superblock g x (selected .wf which))
 
   pub slot-read : (which : Bool) (results : Two SuperblockReadResult) → Read results (selected .values) → at results which ≡ SuperblockUnfinished
-      → Trace g C L (record { machine = superblocksAt (both none) results; disk = resting slots j }) (readSuperblock which 1 ∷ superblockRead which 1 true ∷ []) (true ∷ true ∷ [])
+      → Comes g C L (record { machine = superblocksAt (both none) results; disk = resting slots j }) (slotCalls which)
       (record { machine = superblocksAt (both none) (put results which (SuperblockSuccess (at (selected .values) which))); disk = resting slots j })
-  slot-read which results read unread = (
-    record { machine = superblocksAt (one which) results; disk = reading (oneIds which) no-keys slots j },
-    slot-ask which results read unread,
-    (record { machine = superblocksAt (both none) (put results which (SuperblockSuccess (at (selected .values) which))); disk = resting slots j }, slot-answer which results read unread, refl),
-  )
+  unfolding loads
+  slot-read which results read unread = by (slot-ask which results read unread) refl (by (slot-answer which results read unread) refl here)

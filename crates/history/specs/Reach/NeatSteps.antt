@@ -22,7 +22,7 @@ use Rattle.history.specs.Simulation.Relation.{keptInterval, Flight, flig
 use Rattle.history.specs.Simulation.Commits.{none-there}
 use Rattle.history.specs.Simulation.Steps.{reads-stand}
 use Rattle.history.specs.Reach.Neat.{writtenLen, Piece, Neat}
-use Rattle.history.specs.Reach.NeatReads.{page-asked, page-answered, slot-asked, slot-answered, slot-waits, page-waits}
+use Rattle.source.specs.Laws.Awaited.{page-asked, page-answered, slot-asked, slot-answered, slot-waits, page-waits}
 use Rattle.history.specs.Reach.NeatWrites.{lone-unbind}
 
 module _ (g : Geometry) (C : Codec) where

@@ -31,9 +31,9 @@ use Rattle.history.specs.Ledger.{Call, blocks, Kept, Ledger, begin, tell
 use Rattle.history.specs.Journal.Slots.{slots-wf}
 use Rattle.history.specs.Simulation.Relation.{superOf, keptInterval, Standing, Sim}
 use Rattle.history.specs.Simulation.Working.{on-quiet}
-use Rattle.history.specs.Calls.{Tied, tied-write, tied-written, unawaited-written, tied-log, tied-location, tied-committed, unawaited-committed, tied-page, tied-paged, tied-damaged, unawaited-paged, unawaited-damaged, tied-read, tied-superblock, tied-corrupt, unawaited-superblock, unawaited-corrupt, tied-finish-superblocks, tied-finish-other, tied-freeze, tied-receive, tied-add, tied-replay, tied-push, tied-pop, tied-no-op, tied-again, tied-land, tied-crash, Takes}
+use Rattle.history.specs.Statement.{Tied, tied-write, tied-written, unawaited-written, tied-log, tied-location, tied-committed, unawaited-committed, tied-page, tied-paged, tied-damaged, unawaited-paged, unawaited-damaged, tied-read, tied-superblock, tied-corrupt, unawaited-superblock, unawaited-corrupt, tied-finish-superblocks, tied-finish-other, tied-freeze, tied-receive, tied-add, tied-replay, tied-push, tied-pop, tied-no-op, tied-again, tied-land, tied-crash, Takes, Trace}
 use Rattle.history.specs.Simulation.Steps.{sim-step}
-use Rattle.history.specs.Whole.{Trace, firstParity, init-sim}
+use Rattle.history.specs.Whole.First.{firstParity, init-sim}
 use Rattle.history.specs.Reach.Neat.{Piece, Neat, neat-meets}
 use Rattle.history.specs.Reach.NeatWrites.{Lone, straight-pieces, straight-lone, wrapped-pieces, wrapped-lone}
 use Rattle.history.specs.Reach.NeatSteps.{by-neat, neat-superblock-req, neat-superblock-resp, neat-ask-again, neat-finish-superblocks, neat-journal-req, neat-journal-resp, neat-damaged, neat-finish-other, neat-push, neat-pop, neat-replay, neat-add, neat-freeze, neat-receive, neat-commit-log, neat-commit-location, neat-write-resp, neat-commit-resp, neat-land, neat-no-op}
@@ -158,7 +158,7 @@ reached-step g C L fits p s t l x r h w =
     record {
       sim = z;
       neat = n;
-      meets = neat-meets g C p L (t .machine) (t .disk) (tell g C x l) z n (halves-kept g C L fits s t (h .event) (h .allowed) w);
+      meets = neat-meets g C p L (t .machine) (t .disk) (tell g C x l) z n (halves-kept g C L s t fits (h .event) (h .allowed) w);
     }
 
 -- every accepted call is within the limits

@@ -13,7 +13,7 @@ use Rattle.source.specs.Meets.{SystemMeets}
 use Rattle.source.specs.Departures.{Event, Allowed}
 use Rattle.source.specs.Laws.Awaited.{awaited-read}
 use Rattle.history.specs.Ledger.{Call, Ledger, tell}
-use Rattle.history.specs.Calls.{Tied, tied-write, tied-written, unawaited-written, tied-log, tied-location, tied-committed, unawaited-committed, tied-page, tied-paged, tied-damaged, unawaited-paged, unawaited-damaged, tied-read, tied-superblock, tied-corrupt, unawaited-superblock, unawaited-corrupt, tied-finish-superblocks, tied-finish-other, tied-freeze, tied-receive, tied-add, tied-replay, tied-push, tied-pop, tied-no-op, tied-again, tied-land, tied-crash, Takes}
+use Rattle.history.specs.Statement.{Tied, tied-write, tied-written, unawaited-written, tied-log, tied-location, tied-committed, unawaited-committed, tied-page, tied-paged, tied-damaged, unawaited-paged, unawaited-damaged, tied-read, tied-superblock, tied-corrupt, unawaited-superblock, unawaited-corrupt, tied-finish-superblocks, tied-finish-other, tied-freeze, tied-receive, tied-add, tied-replay, tied-push, tied-pop, tied-no-op, tied-again, tied-land, tied-crash, Takes}
 use Rattle.history.specs.Simulation.Relation.{ReadsStand, Sim}
 use Rattle.history.specs.Simulation.Loading.{sim-superblock-req, sim-superblock-resp, sim-finish-superblocks, sim-journal-req, sim-journal-resp, sim-finish-other, sim-push, sim-pop, sim-replay}
 use Rattle.history.specs.Simulation.Working.{sim-add, sim-freeze, sim-receive, sim-write, sim-write-resp}

@@ -8,7 +8,7 @@ use native.Mathlib.Omega.{arith}
 use lib.ListN.{length}
 use Rattle.laws.specs.Fold.{sum}
 use Rattle.laws.specs.Cut.{lengths}
-use Rattle.laws.specs.Sets.{Ids, Map, keys, AtMost, Listed, few-listed, listed-at-most, at}
+use Rattle.laws.specs.Sets.{Map, keys, AtMost, Listed, few-listed, listed-at-most, at}
 use Rattle.layout.specs.declared.geometry.Geometry.{Geometry}
 use Rattle.codec.specs.Codec.{JournalEntry, EntryFits, EntriesFit}
 use Rattle.source.specs.JournalDisk as D

@@ -11,13 +11,14 @@ use Rattle.codec.specs.Sizes.{sized-range}
 use Rattle.source.specs.JournalDisk as D
 use Rattle.source.specs.JournalDisk.{DiskOp, ReqReadSuperblockOp, ReqReadJournalOp, ReqWriteSuperblockOp, ReqWriteJournalOp, RespReadSuperblockOp, RespReadJournalOp, RespWriteSuperblockOp, RespWriteJournalOp, NoDiskOp}
 use Rattle.source.specs.JournalCache as M
-use Rattle.source.specs.JournalCache.{isReady, isLoadingOther, isLoadingSuperblock}
+use Rattle.source.specs.JournalCache.{isReady}
 use Rattle.source.specs.JournalCache.{WriteBackJournalReqStep, WriteBackJournalRespStep, WriteBackSuperblockReq-AdvanceLog-Step, WriteBackSuperblockReq-AdvanceLocation-Step, WriteBackSuperblockRespStep, PageInJournalReqStep, PageInJournalRespStep, PageInSuperblockReqStep, PageInSuperblockRespStep, FinishLoadingSuperblockPhaseStep, FinishLoadingOtherPhaseStep, FreezeStep, ReceiveFrozenLocStep, AdvanceStep, ReplayStep, PushSyncReqStep, PopSyncReqStep, NoOpStep}
 use Rattle.source.specs.JournalSystem as Y
 use Rattle.source.specs.Limits.{Limits, Fitting}
 use Rattle.source.specs.Meets.{MachineMeets, DiskMeets, SystemMeets}
 use Rattle.source.specs.Departures.{OneRange, DamagedJournalClauses, AskAgainClauses, Step⁺, Source, DamagedJournalStep, AskAgainStep, NextStep⁺, Event, MachineStep, DiskInternalStep, CrashStep, Allowed}
 use Rattle.source.specs.Within.{MachineAllowed, AwaitedPiece, MachineWithin, DiskEvent, Operation, Internal, Crashed, DiskAllowed, WholeBlocks, DiskWithin, Within}
+use Rattle.source.specs.Laws.Cases.{by-ready, by-other, by-superblock}
 use Rattle.source.specs.Laws.Initial.{initial-meets}
 use Rattle.source.specs.Laws.Preserved.{inv-kept⁺}
 use Rattle.source.specs.Laws.ShapeMachine.{machine-shape}
@@ -39,22 +40,10 @@ disk-kept g L d d′ event h w = record { counts = w .counts; shape = disk-shape
 
 -- The range of a journal write is whole blocks
 
-on-ready : {G : Type 0} (s : M.Variables) (P : M.ReadyVariables → Type 0) → ((r : M.ReadyVariables) → P r → G) → isReady s P → G
-on-ready (M.Variables.Ready s) P f h = f s h
-on-ready (M.Variables.LoadingOther s) P f h = absurd h
-on-ready (M.Variables.LoadingSuperblock s) P f h = absurd h
-
-on-other : {G : Type 0} (s : M.Variables) (P : M.LoadingOtherVariables → Type 0) → ((r : M.LoadingOtherVariables) → P r → G) → isLoadingOther s P → G
-on-other (M.Variables.Ready s) P f h = absurd h
-on-other (M.Variables.LoadingOther s) P f h = f s h
-on-other (M.Variables.LoadingSuperblock s) P f h = absurd h
-
-on-superblock : {G : Type 0} (s : M.Variables) (P : M.LoadingSuperblockVariables → Type 0) → ((r : M.LoadingSuperblockVariables) → P r → G) → isLoadingSuperblock s P → G
-on-superblock (M.Variables.Ready s) P f h = absurd h
-on-superblock (M.Variables.LoadingOther s) P f h = absurd h
-on-superblock (M.Variables.LoadingSuperblock s) P f h = f s h
-
 module _ (g : Geometry) (C : Codec) (s s′ : M.Variables) (dop : DiskOp) where
+  abbrev blocks : M.Variables → Type 0
+  blocks t = WholeBlocks dop
+
   -- an operation that is no journal write
   by-op : (d : DiskOp) → dop ≡ d → WholeBlocks d → WholeBlocks dop
   by-op d e b = subst WholeBlocks (sym e) b
@@ -75,33 +64,33 @@ module _ (g : Geometry) (C : Codec) (s s′ : M.Variables) (dop : DiskOp) where
           (subst (λ (x : JournalRange). SizedBlocks (length x) x) (sym (k .journal-is ∙ o .range-is)) (C .encode-size (M.toWrite r)))
       go (M.Variables.LoadingOther r) k o = absurd k
       go (M.Variables.LoadingSuperblock r) k o = absurd k
-  step-blocks (Source WriteBackJournalRespStep) h = on-ready s (λ r. M.WriteBackJournalRespClauses r s′ dop) (λ r k. by-op (RespWriteJournalOp (k .id)) (k .op) tt) h
+  step-blocks (Source WriteBackJournalRespStep) h = by-ready blocks s (λ r. M.WriteBackJournalRespClauses r s′ dop) (λ r k. by-op (RespWriteJournalOp (k .id)) (k .op) tt) h
   step-blocks (Source WriteBackSuperblockReq-AdvanceLog-Step) h =
-      on-ready s (λ r. M.WriteBackSuperblockReq-AdvanceLogClauses g r s′ dop) (λ r k. by-op (ReqWriteSuperblockOp (k .id) (k .which) (k .req)) (k .op) tt) h
+      by-ready blocks s (λ r. M.WriteBackSuperblockReq-AdvanceLogClauses g r s′ dop) (λ r k. by-op (ReqWriteSuperblockOp (k .id) (k .which) (k .req)) (k .op) tt) h
   step-blocks (Source WriteBackSuperblockReq-AdvanceLocation-Step) h =
-      on-ready s (λ r. M.WriteBackSuperblockReq-AdvanceLocationClauses g r s′ dop) (λ r k. by-op (ReqWriteSuperblockOp (k .id) (k .which) (k .req)) (k .op) tt) h
-  step-blocks (Source WriteBackSuperblockRespStep) h = on-ready s (λ r. M.WriteBackSuperblockRespClauses r s′ dop) (λ r k. by-op (RespWriteSuperblockOp (k .id) (k .which)) (k .op) tt) h
-  step-blocks (Source (PageInJournalReqStep which)) h = on-other s (λ r. M.PageInJournalReqClauses g r s′ dop which) (λ r k. by-op (ReqReadJournalOp (k .id) (k .interval)) (k .op) tt) h
+      by-ready blocks s (λ r. M.WriteBackSuperblockReq-AdvanceLocationClauses g r s′ dop) (λ r k. by-op (ReqWriteSuperblockOp (k .id) (k .which) (k .req)) (k .op) tt) h
+  step-blocks (Source WriteBackSuperblockRespStep) h = by-ready blocks s (λ r. M.WriteBackSuperblockRespClauses r s′ dop) (λ r k. by-op (RespWriteSuperblockOp (k .id) (k .which)) (k .op) tt) h
+  step-blocks (Source (PageInJournalReqStep which)) h = by-other blocks s (λ r. M.PageInJournalReqClauses g r s′ dop which) (λ r k. by-op (ReqReadJournalOp (k .id) (k .interval)) (k .op) tt) h
   step-blocks (Source (PageInJournalRespStep which)) h =
-      on-other s (λ r. M.PageInJournalRespClauses r s′ dop (h .0)) (λ r k. by-op (RespReadJournalOp (k .id) (some (k .jr))) (k .op) tt) (h .1)
+      by-other blocks s (λ r. M.PageInJournalRespClauses r s′ dop (h .0)) (λ r k. by-op (RespReadJournalOp (k .id) (some (k .jr))) (k .op) tt) (h .1)
   step-blocks (Source (PageInSuperblockReqStep which)) h =
-      on-superblock s (λ r. M.PageInSuperblockReqClauses r s′ dop which) (λ r k. by-op (ReqReadSuperblockOp (k .id) which) (k .op) tt) (h .source)
+      by-superblock blocks s (λ r. M.PageInSuperblockReqClauses r s′ dop which) (λ r k. by-op (ReqReadSuperblockOp (k .id) which) (k .op) tt) (h .source)
   step-blocks (Source (PageInSuperblockRespStep which)) h =
-      on-superblock s (λ r. M.PageInSuperblockRespClauses g r s′ dop which) (λ r k. by-op (RespReadSuperblockOp (k .id) which (k .superblock)) (k .op) tt) h
-  step-blocks (Source FinishLoadingSuperblockPhaseStep) h = on-superblock s (λ r. M.FinishLoadingSuperblockPhaseClauses r s′ dop) (λ r k. by-op NoDiskOp (k .op) tt) h
+      by-superblock blocks s (λ r. M.PageInSuperblockRespClauses g r s′ dop which) (λ r k. by-op (RespReadSuperblockOp (k .id) which (k .superblock)) (k .op) tt) h
+  step-blocks (Source FinishLoadingSuperblockPhaseStep) h = by-superblock blocks s (λ r. M.FinishLoadingSuperblockPhaseClauses r s′ dop) (λ r k. by-op NoDiskOp (k .op) tt) h
   step-blocks (Source FinishLoadingOtherPhaseStep) h =
-      on-other s (λ r. isReady s′ (λ t. M.FinishLoadingOtherPhaseClauses g C r t dop))
-      (λ r k. on-ready s′ (λ t. M.FinishLoadingOtherPhaseClauses g C r t dop) (λ t c. by-op NoDiskOp (c .op) tt) k) (h .source)
-  step-blocks (Source FreezeStep) h = on-ready s (λ r. M.FreezeClauses r s′ dop) (λ r k. by-op NoDiskOp (k .op) tt) h
-  step-blocks (Source (ReceiveFrozenLocStep loc)) h = on-ready s (λ r. M.ReceiveFrozenLocClauses g r s′ dop loc) (λ r k. by-op NoDiskOp (k .op) tt) h
-  step-blocks (Source (AdvanceStep es)) h = on-ready s (λ r. M.AdvanceClauses r s′ dop es) (λ r k. by-op NoDiskOp (k .op) tt) h
+      by-other blocks s (λ r. isReady s′ (λ t. M.FinishLoadingOtherPhaseClauses g C r t dop))
+      (λ r k. by-ready blocks s′ (λ t. M.FinishLoadingOtherPhaseClauses g C r t dop) (λ t c. by-op NoDiskOp (c .op) tt) k) (h .source)
+  step-blocks (Source FreezeStep) h = by-ready blocks s (λ r. M.FreezeClauses r s′ dop) (λ r k. by-op NoDiskOp (k .op) tt) h
+  step-blocks (Source (ReceiveFrozenLocStep loc)) h = by-ready blocks s (λ r. M.ReceiveFrozenLocClauses g r s′ dop loc) (λ r k. by-op NoDiskOp (k .op) tt) h
+  step-blocks (Source (AdvanceStep es)) h = by-ready blocks s (λ r. M.AdvanceClauses r s′ dop es) (λ r k. by-op NoDiskOp (k .op) tt) h
   step-blocks (Source (ReplayStep es)) h =
-      on-ready s (λ r. isReady s′ (λ t. M.ReplayClauses r t dop es)) (λ r k. on-ready s′ (λ t. M.ReplayClauses r t dop es) (λ t c. by-op NoDiskOp (c .op) tt) k) h
+      by-ready blocks s (λ r. isReady s′ (λ t. M.ReplayClauses r t dop es)) (λ r k. by-ready blocks s′ (λ t. M.ReplayClauses r t dop es) (λ t c. by-op NoDiskOp (c .op) tt) k) h
   step-blocks (Source (PushSyncReqStep id)) h = by-op NoDiskOp (h .op) tt
   step-blocks (Source (PopSyncReqStep id)) h = by-op NoDiskOp (h .op) tt
   step-blocks (Source NoOpStep) h = idle-blocks s (h .source .op)
-  step-blocks DamagedJournalStep h = on-other s (λ r. DamagedJournalClauses r s′ dop) (λ r k. by-op (RespReadJournalOp (k .id) none) (k .op) tt) h
-  step-blocks (AskAgainStep which) h = on-superblock s (λ r. AskAgainClauses r s′ dop which) (λ r k. by-op NoDiskOp (k .op) tt) h
+  step-blocks DamagedJournalStep h = by-other blocks s (λ r. DamagedJournalClauses r s′ dop) (λ r k. by-op (RespReadJournalOp (k .id) none) (k .op) tt) h
+  step-blocks (AskAgainStep which) h = by-superblock blocks s (λ r. AskAgainClauses r s′ dop which) (λ r k. by-op NoDiskOp (k .op) tt) h
 
 -- The system: an awaited answer is the disk's own blocks
 
@@ -119,27 +108,36 @@ pub record HalvesMeet (g : Geometry) (L : Limits) (s : Y.Variables) : Type 0 whe
   pub machine : MachineMeets g L (s .machine)
   pub disk : DiskMeets g L (s .disk)
 
-pub halves-kept : (g : Geometry) (C : Codec) (L : Limits) → Fitting C L → (s s′ : Y.Variables) (event : Event) → Allowed g C L s s′ event → Within g L s′ event → HalvesMeet g L s′
-halves-kept g C L fits s s′ (MachineStep dop step) h w =
-    record {
-      machine =
-          machine-kept g C L fits (s .machine) (s′ .machine) dop step (record { meets = h .meets .machine; step = h .step .machine })
-          (record { geometry = w .geometry; arguments = w .arguments; piece = answer-piece g L s (s′ .disk) dop (h .meets) (h .step .disk); counts = w .machine });
-      disk =
-          disk-kept g L (s .disk) (s′ .disk) (Operation dop) (record { meets = h .meets .disk; step = h .step .disk })
-          (record { geometry = w .geometry; arguments = step-blocks g C (s .machine) (s′ .machine) dop step (h .step .machine); counts = w .disk });
-    }
-halves-kept g C L fits s s′ (DiskInternalStep step) h w =
-    record {
-      machine = subst (MachineMeets g L) (h .step .machine) (h .meets .machine);
-      disk =
-          disk-kept g L (s .disk) (s′ .disk) (Internal step) (record { meets = h .meets .disk; step = h .step .disk })
-          (record { geometry = w .geometry; arguments = tt; counts = w .disk });
-    }
-halves-kept g C L fits s s′ (CrashStep picture) h w =
-    record {
-      machine = initial-meets g L (s′ .machine) (h .step .machine);
-      disk =
-          disk-kept g L (s .disk) (s′ .disk) (Crashed picture) (record { meets = h .meets .disk; step = h .step .disk })
-          (record { geometry = w .geometry; arguments = w .arguments; counts = w .disk });
-    }
+-- what an event is to the disk
+abbrev pub diskEvent : Event → DiskEvent
+diskEvent (MachineStep dop step) = Operation dop
+diskEvent (DiskInternalStep step) = Internal step
+diskEvent (CrashStep picture) = Crashed picture
+
+module _ (g : Geometry) (C : Codec) (L : Limits) (s s′ : Y.Variables) where
+  -- the disk's half of an allowed step, and within the limits
+  pub allowed-disk : (event : Event) → Allowed g C L s s′ event → DiskAllowed g L (s .disk) (s′ .disk) (diskEvent event)
+  allowed-disk (MachineStep dop step) h = record { meets = h .meets .disk; step = h .step .disk }
+  allowed-disk (DiskInternalStep step) h = record { meets = h .meets .disk; step = h .step .disk }
+  allowed-disk (CrashStep picture) h = record { meets = h .meets .disk; step = h .step .disk }
+
+  pub within-disk : (event : Event) → Allowed g C L s s′ event → Within g L s′ event → DiskWithin g L (s′ .disk) (diskEvent event)
+  within-disk (MachineStep dop step) h w =
+      record { geometry = w .geometry; arguments = step-blocks g C (s .machine) (s′ .machine) dop step (h .step .machine); counts = w .disk }
+  within-disk (DiskInternalStep step) h w = record { geometry = w .geometry; arguments = tt; counts = w .disk }
+  within-disk (CrashStep picture) h w = record { geometry = w .geometry; arguments = w .arguments; counts = w .disk }
+
+  -- the machine's half
+  machine-half : Fitting C L → (event : Event) → Allowed g C L s s′ event → Within g L s′ event → MachineMeets g L (s′ .machine)
+  machine-half fits (MachineStep dop step) h w =
+      machine-kept g C L fits (s .machine) (s′ .machine) dop step (record { meets = h .meets .machine; step = h .step .machine })
+      (record { geometry = w .geometry; arguments = w .arguments; piece = answer-piece g L s (s′ .disk) dop (h .meets) (h .step .disk); counts = w .machine })
+  machine-half fits (DiskInternalStep step) h w = subst (MachineMeets g L) (h .step .machine) (h .meets .machine)
+  machine-half fits (CrashStep picture) h w = initial-meets g L (s′ .machine) (h .step .machine)
+
+  pub halves-kept : Fitting C L → (event : Event) → Allowed g C L s s′ event → Within g L s′ event → HalvesMeet g L s′
+  halves-kept fits event h w =
+      record {
+        machine = machine-half fits event h w;
+        disk = disk-kept g L (s .disk) (s′ .disk) (diskEvent event) (allowed-disk event h) (within-disk event h w);
+      }

@@ -1,34 +1,38 @@
 -- The three places that the Dafny text leaves open: the source's predicates alone do not close them, even from a state that meets question 2.
 --   position   FinishLoadingOtherPhase leaves frozenJournalPosition open (closed: finishLoadingOtherPhase-one)
 --   answers    NoOp may throw an awaited read's answer away (closed: answer-one)
---   damage     a slot that was read damaged stays corrupt, and a damaged journal read stays awaited, whatever step follows but a crash
---              (closed: AskAgain, DamagedJournal)
+--   damage     a slot that was read damaged stays corrupt, whatever step of 000 follows; and of a journal in one piece a damaged read
+--              stays awaited, whatever step of 004 follows but a crash. In two pieces there is a way on while the other piece is neither in nor
+--              awaited: to ask for it under the same id clears the read (other-clears). (Closed: AskAgain, DamagedJournal)
 use Prim.Native.Nat.{ℕ}
-use mathlib.Core.Bool.{Bool, true, false}
+use mathlib.Core.Bool.{Bool, true, false, not}
 use mathlib.Core.Path.{_≡_, refl, sym, _∙_, ap, subst}
 use mathlib.Core.List.{[]}
-use mathlib.Core.Option.{none, some}
+use mathlib.Core.Option.{Option, none, some}
 use mathlib.Core.Logic.{inl}
 use native.Mathlib.Omega.{arith}
 use Rattle.laws.specs.Choice.{ruin, split-eq}
 use Rattle.layout.specs.declared.geometry.Geometry.{Geometry}
 use Rattle.layout.specs.Geometry.{ValidGeometry, IndirectionTable1Addr}
 use Rattle.interval.specs.declared.interval.JournalInterval.{JournalInterval}
-use Rattle.interval.specs.Interval.{JournalFrontInterval, JournalBackInterval}
+use Rattle.interval.specs.Laws.{FrontBack, parts-none}
 use Rattle.superblock.specs.declared.superblock.Superblock.{Superblock}
 use Rattle.superblock.specs.Superblock.{JournalFrontIntervalOfSuperblock, JournalBackIntervalOfSuperblock}
+use Rattle.superblock.specs.Laws.{WFSuperblock}
 use Rattle.laws.specs.Sets.{Map, no-ids, no-keys, bind, unbind, unbind-here, unbind-there, none-few, both, at, at-both, put, none-some}
 use Rattle.codec.specs.Codec.{Codec}
 use Rattle.source.specs.JournalDisk as D
-use Rattle.source.specs.JournalDisk.{ReqId, DiskOp, RespReadSuperblockOp, RespReadJournalOp, NoDiskOp}
+use Rattle.source.specs.JournalDisk.{ReqId, DiskOp, ReqReadJournalOp, RespReadSuperblockOp, RespReadJournalOp, NoDiskOp}
 use Rattle.source.specs.JournalCache as M
-use Rattle.source.specs.JournalCache.{Variables, Ready, LoadingOther, LoadingSuperblock, ReadyVariables, LoadingOtherVariables, LoadingSuperblockVariables, isReady, isLoadingOther, isLoadingSuperblock, SuperblockReadResult, SuperblockUnfinished, SuperblockCorruption, CommitNone}
+use Rattle.source.specs.JournalCache.{Variables, Ready, LoadingOther, LoadingSuperblock, ReadyVariables, LoadingOtherVariables, LoadingSuperblockVariables, isReady, isLoadingOther, isLoadingSuperblock, loadedRange, journalIntervalOfSuperblock, unlessIs, SuperblockReadResult, SuperblockUnfinished, SuperblockCorruption, CommitNone}
 use Rattle.source.specs.JournalCache.{Step, WriteBackJournalReqStep, WriteBackJournalRespStep, WriteBackSuperblockReq-AdvanceLog-Step, WriteBackSuperblockReq-AdvanceLocation-Step, WriteBackSuperblockRespStep, PageInJournalReqStep, PageInJournalRespStep, PageInSuperblockReqStep, PageInSuperblockRespStep, FinishLoadingSuperblockPhaseStep, FinishLoadingOtherPhaseStep, FreezeStep, ReceiveFrozenLocStep, AdvanceStep, ReplayStep, PushSyncReqStep, PopSyncReqStep, NoOpStep}
 use Rattle.source.specs.JournalSystem as Y
 use Rattle.source.specs.Limits.{limits}
 use Rattle.source.specs.Meets.{MachineMeets}
 use Rattle.source.specs.Departures.{DamagedJournal, AskAgain}
 use Rattle.source.specs.Laws.Answers.{Answer}
+use Rattle.source.specs.Laws.Awaited.{unless-same}
+use Rattle.source.specs.Laws.Pieces.{piece-contiguous}
 
 -- Position
 
@@ -83,20 +87,19 @@ module _ (g : Geometry) (v : ValidGeometry g) where
       }
 
   any-position : (C : Codec) (position : ℕ) → M.FinishLoadingOtherPhase g C (LoadingOther (unread g)) (Ready (loadedAt g position)) NoDiskOp
-  unfolding JournalFrontInterval JournalBackInterval
   any-position C position =
       record {
         op = refl;
         start-in = omega (arith, v .some-block);
         len-in = omega arith;
-        front-in = λ w e. none-some refl e;
-        back-in = λ w e. none-some refl e;
+        front-in = λ w e. none-some (parts .front-is) e;
+        back-in = λ w e. none-some (parts .back-is) e;
         superblockWrite-is = refl;
         inMemoryJournalFrozen-is = refl;
         inMemoryJournal-is = refl;
         outstandingJournalWrites-is = refl;
         writtenJournalLen-is = refl;
-        parses = C .parse-empty;
+        parses = (λ i. C .parseJournalRange (loadedRange (parts .back-is i) (parts .front-is i) [] [])) ∙ C .parse-empty;
         superblock-is = refl;
         whichSuperblock-is = refl;
         newSuperblock-is = refl;
@@ -105,6 +108,9 @@ module _ (g : Geometry) (v : ValidGeometry g) where
         frozenLoc-is = refl;
         commitStatus-is = refl;
       }
+    where
+      parts : FrontBack g 0 0 none none
+      parts = parts-none g 0 0 refl
 
   abbrev positionOf : Variables → ℕ
   positionOf (Ready s) = s .frozenJournalPosition
@@ -409,3 +415,40 @@ damage-leads g id (LoadingOther m) d c = (
   read-cleared g id m d,
 )
 damage-leads g id (LoadingSuperblock m) d c = absurd c
+
+-- in two pieces: a read that is awaited, and the other piece not yet asked for
+pub record OtherUnasked (g : Geometry) (id : ReqId) (m : LoadingOtherVariables) (which : Bool) : Type 0 where
+  pub superblock-wf : WFSuperblock g (m .superblock)
+  pub awaited : at (m .journalReads) which ≡ some id
+  pub other : JournalInterval
+  pub other-is : journalIntervalOfSuperblock g (not which) (m .superblock) ≡ some other
+  pub no-read : at (m .journalReads) (not which) ≡ none
+  pub no-piece : at (m .journalPieces) (not which) ≡ none
+
+-- the machine after the other piece was asked for under the same id
+abbrev askedOther : ReqId → LoadingOtherVariables → Bool → LoadingOtherVariables
+askedOther id m which = M.to-journalReads (put (put (m .journalReads) (not which) (some id)) (not (not which)) (unlessIs (at (m .journalReads) (not (not which))) id)) m
+
+other-cleared : (id : ReqId) (m : LoadingOtherVariables) (which : Bool) → at (m .journalReads) which ≡ some id → at (askedOther id m which .journalReads) which ≡ none
+other-cleared id m true e = ap (λ (o : Option ReqId). unlessIs o id) e ∙ unless-same id
+other-cleared id m false e = ap (λ (o : Option ReqId). unlessIs o id) e ∙ unless-same id
+
+pub other-clears : (g : Geometry) (id : ReqId) (m : LoadingOtherVariables) (d : D.Variables) (which : Bool) (c : OtherUnasked g id m which) → d .reqReadJournals id ≡ none
+    → M.PageInJournalReq g (LoadingOther m) (LoadingOther (askedOther id m which)) (ReqReadJournalOp id (c .other)) (not which)
+    × D.Next g d (D.to-reqReadJournals (bind (d .reqReadJournals) id (c .other)) d) (ReqReadJournalOp id (c .other))
+    × (at (askedOther id m which .journalReads) which ≡ none)
+other-clears g id m d which c n = (
+  record {
+    id = id;
+    interval = c .other;
+    op = refl;
+    start-in = c .superblock-wf .start-in;
+    len-in = c .superblock-wf .len-in;
+    interval-is = c .other-is;
+    no-read = c .no-read;
+    no-piece = c .no-piece;
+    next = refl;
+  },
+  record { new = n; contiguous = piece-contiguous g (m .superblock) (c .superblock-wf) (not which) (c .other) (c .other-is); next = refl },
+  other-cleared id m which (c .awaited),
+)

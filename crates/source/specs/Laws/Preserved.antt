@@ -9,18 +9,20 @@ use Rattle.laws.specs.Choice.{ruin, true-false, split-bool}
 use Rattle.layout.specs.declared.geometry.Geometry.{Geometry}
 use Rattle.interval.specs.declared.interval.JournalInterval.{JournalInterval}
 use Rattle.superblock.specs.declared.superblock.Superblock.{Superblock}
-use Rattle.superblock.specs.Superblock.{SelectSuperblock, wfSuperblock}
+use Rattle.superblock.specs.Superblock.{wfSuperblock}
 use Rattle.superblock.specs.Laws.{WFSuperblock, superblock-facts}
 use Rattle.laws.specs.Sets.{Map, bind, unbind, at, put, none-some, at-both}
 use Rattle.codec.specs.Codec.{JournalRange, Codec}
 use Rattle.source.specs.JournalDisk.{ReqId, DiskOp}
 use Rattle.source.specs.JournalCache
-use Rattle.source.specs.Departures.{DamagedJournalClauses, AskAgainClauses, Step⁺, Source, DamagedJournalStep, AskAgainStep, NextStep⁺, source-next}
+use Rattle.source.specs.Departures.{DamagedJournalClauses, AskAgainClauses, Step⁺, Source, DamagedJournalStep, AskAgainStep, NextStep⁺}
 use Rattle.source.specs.JournalCache.{Variables, Ready, LoadingOther, LoadingSuperblock, ReadyVariables, LoadingOtherVariables, LoadingSuperblockVariables, SyncReqStatus, State3, SuperblockReadResult, SuperblockSuccess, SuperblockUnfinished, SuperblockCorruption}
-use Rattle.source.specs.JournalCache.{to-superblocks, to-outstandingSuperblockReads, superblockRead, journalIntervalOfSuperblock, withSyncReqs, syncReqsOf, unlessIs, selectedSecond}
+use Rattle.source.specs.JournalCache.{to-superblocks, to-outstandingSuperblockReads, superblockRead, journalIntervalOfSuperblock, withSyncReqs, syncReqsOf, unlessIs}
 use Rattle.source.specs.JournalCache.{InvLoadingSuperblock, InvLoadingOther, InvReady, Inv, NextStep}
 use Rattle.source.specs.JournalCache.{Step, WriteBackJournalReqStep, WriteBackJournalRespStep, WriteBackSuperblockReq-AdvanceLog-Step, WriteBackSuperblockReq-AdvanceLocation-Step, WriteBackSuperblockRespStep, PageInJournalReqStep, PageInJournalRespStep, PageInSuperblockReqStep, PageInSuperblockRespStep, FinishLoadingSuperblockPhaseStep, FinishLoadingOtherPhaseStep, FreezeStep, ReceiveFrozenLocStep, AdvanceStep, ReplayStep, PushSyncReqStep, PopSyncReqStep, NoOpStep}
+use Rattle.source.specs.JournalSystem.{selected-wf}
 use Rattle.source.specs.Laws.Awaited.{unless-some}
+use Rattle.source.specs.Laws.Departs.{source-next}
 use Rattle.source.specs.Laws.PreservedReady.{by-next, inv-rest, inv-freeze, inv-receive, inv-write, inv-write-resp, inv-commit-log, inv-commit-location, inv-commit-resp}
 
 module _ (g : Geometry) where
@@ -96,18 +98,13 @@ module _ (g : Geometry) where
       before false false e f = absurd (f e)
 
   inv-finish-superblocks : (s : LoadingSuperblockVariables) (s′ : Variables) (dop : DiskOp) → InvLoadingSuperblock g s → JournalCache.FinishLoadingSuperblockPhaseClauses s s′ dop → Inv g s′
-  unfolding SelectSuperblock
   inv-finish-superblocks s s′ dop h k =
       by-next g (k .next)
       (record {
-        superblock-wf = go (selectedSecond (k .superblock1) (k .superblock2));
+        superblock-wf = selected-wf g (k .superblock1) (k .superblock2) (h .success-wf false (k .superblock1) (k .success1)) (h .success-wf true (k .superblock2) (k .success2));
         read-interval = λ which id e. none-some (at-both none which) e;
         piece-interval = λ which jr e. none-some (at-both none which) e;
       })
-    where
-      go : (b : Bool) → WFSuperblock g (cond b (k .superblock2) (k .superblock1))
-      go true = h .success-wf true (k .superblock2) (k .success2)
-      go false = h .success-wf false (k .superblock1) (k .success1)
 
   inv-journal-req : (s : LoadingOtherVariables) (s′ : Variables) (dop : DiskOp) (which : Bool) → InvLoadingOther g s → JournalCache.PageInJournalReqClauses g s s′ dop which → Inv g s′
   inv-journal-req s s′ dop which h k =

@@ -17,7 +17,7 @@ use Rattle.codec.specs.Codec.{JournalEntry, JournalRange, Codec}
 use Rattle.source.specs.JournalDisk.{ReqId, DiskOp}
 use Rattle.source.specs.JournalCache
 use Rattle.source.specs.JournalCache.{Variables, ReadyVariables, SyncReqStatus, CommitStatus, CommitNone, CommitAdvanceLog, CommitAdvanceLocation}
-use Rattle.source.specs.JournalCache.{to-inMemoryJournal, to-replayJournal, to-syncReqs, ifNone, advancedLog, advancedLocation}
+use Rattle.source.specs.JournalCache.{to-inMemoryJournal, to-replayJournal, to-syncReqs, ifNone, committing, advancedLog, advancedLocation}
 use Rattle.source.specs.JournalCache.{InvAdvanceLog, InvAdvanceLocation, InvNewSuperblock, InvReady, Inv}
 
 module _ (g : Geometry) where
@@ -151,7 +151,7 @@ module _ (g : Geometry) where
   -- a request: the three fields of a commit are set together
   module _ (s : ReadyVariables) (h : InvReady g s) (id : ReqId) (new : Superblock) (c : CommitStatus) (busy : c ≡ CommitNone → ⊥) where
     abbrev asked : ReadyVariables
-    asked = JournalCache.to-newSuperblock (some new) (JournalCache.to-superblockWrite (some id) (JournalCache.to-commitStatus c s))
+    asked = committing c id new s
 
     inv-asked : (c ≡ CommitAdvanceLog → InvAdvanceLog asked) → (c ≡ CommitAdvanceLocation → InvAdvanceLocation g asked) → InvNewSuperblock g asked new → InvReady g asked
     inv-asked log location made =

@@ -14,7 +14,7 @@ use Rattle.interval.specs.declared.interval.JournalInterval.{JournalInterval}
 use Rattle.interval.specs.Interval.{interval}
 use Rattle.interval.specs.Laws.{lenOf, parts-fit}
 use Rattle.codec.specs.Codec.{BlockSize, JournalRange, SizedBlocks, Codec}
-use Rattle.codec.specs.Sizes.{sized-bytes}
+use Rattle.codec.specs.Sizes.{sized-none, sized-bytes}
 use Rattle.source.specs.JournalDisk.{ReqId, DiskOp}
 use Rattle.source.specs.JournalCache
 use Rattle.source.specs.JournalCache.{Variables, Ready, LoadingOther, LoadingSuperblock, LoadingOtherVariables, LoadingSuperblockVariables, isReady, journalIntervalOfSuperblock, unlessIs, loaded, loadedRange, InvLoadingOther, Inv}
@@ -24,6 +24,7 @@ use Rattle.source.specs.Meets.{LoadingOtherShape, LoadingSuperblockShape
 use Rattle.source.specs.Departures.{DamagedJournalClauses, Step⁺, Source, DamagedJournalStep, AskAgainStep, NextStep⁺}
 use Rattle.source.specs.Within.{StepArguments, AwaitedPiece}
 use Rattle.source.specs.Laws.Awaited.{unless-not, unless-some, awaited-read}
+use Rattle.source.specs.Laws.Pieces.{spanned-valid}
 use Rattle.source.specs.Laws.ShapeReady.{by-shape, ready-shape}
 
 -- A pair of reads that differ
@@ -140,29 +141,25 @@ module _ (g : Geometry) (L : Limits) where
     -- the pieces that are in have no more bytes than the journal has
     module _ (inv : InvLoadingOther g s) where
       piece-bytes : (which : Bool) → length (flat (Option·getD (at (s .journalPieces) which) [])) ≤ lenOf (journalIntervalOfSuperblock g which (s .superblock)) * BlockSize
-      unfolding flat
       piece-bytes which = go (at (s .journalPieces) which) refl
         where
           go : (o : Option JournalRange) → at (s .journalPieces) which ≡ o → length (flat (Option·getD o [])) ≤ lenOf (journalIntervalOfSuperblock g which (s .superblock)) * BlockSize
-          go none e = omega arith
+          go none e = omega (arith, sized-bytes 0 [] sized-none)
           go (some jr) e =
               let v = inv .piece-interval which jr e in
               omega (arith, sized-bytes (v .0 .len) jr (h .piece-size which jr (v .0) e (v .1)), ap lenOf (v .1))
 
       joined-bytes : (back front : Option JournalInterval) (a b : JournalRange) → length (flat (loadedRange back front a b)) ≤ length (flat a) + length (flat b)
-      unfolding flat
       joined-bytes (some v) front a b = omega (arith, ap length (flat-append a b), length-append (flat a) (flat b))
       joined-bytes none (some v) a b = omega arith
-      joined-bytes none none a b = omega arith
+      joined-bytes none none a b = omega (arith, sized-bytes 0 [] sized-none)
 
       pub loaded-bytes : length (flat (loaded g s)) ≤ g .blocks * BlockSize
       loaded-bytes =
           let all =
           joined-bytes (journalIntervalOfSuperblock g true (s .superblock)) (journalIntervalOfSuperblock g false (s .superblock))
           (Option·getD (at (s .journalPieces) false) []) (Option·getD (at (s .journalPieces) true) []) in
-          let parts =
-          parts-fit g (interval (s .superblock .journalStart) (s .superblock .journalLen))
-          (record { start-in = inv .superblock-wf .start-in; len-in = inv .superblock-wf .len-in }) .lens-add in
+          let parts = parts-fit g (interval (s .superblock .journalStart) (s .superblock .journalLen)) (spanned-valid g (s .superblock) (inv .superblock-wf)) .lens-add in
           omega (arith, all, piece-bytes false, piece-bytes true, parts, inv .superblock-wf .len-in)
 
       finished-shape : (C : Codec) → Fitting C L → (s′ : Variables) (dop : DiskOp) → isReady s′ (λ t. JournalCache.FinishLoadingOtherPhaseClauses g C s t dop) → MachineShape g L s′

@@ -28,7 +28,8 @@ use Rattle.source.specs.JournalCache.{Step, WriteBackJournalReqStep, Wri
 use Rattle.source.specs.JournalSystem as Y
 use Rattle.source.specs.Limits.{Limits}
 use Rattle.source.specs.Meets.{LoadingOtherShape, MachineMeets}
-use Rattle.source.specs.Departures.{OneRange, FinishLoadingOtherPhase⁺, PageInJournalResp⁺, DamagedJournalClauses, DamagedJournal, AskAgainClauses, AskAgain, SourceStep⁺, Step⁺, Source, DamagedJournalStep, AskAgainStep, NextStep⁺, DiskCrash⁺, Event, MachineStep, DiskInternalStep, CrashStep, Allowed}
+use Rattle.source.specs.Departures.{FinishLoadingOtherPhase⁺, PageInJournalResp⁺, DamagedJournalClauses, DamagedJournal, AskAgainClauses, AskAgain, SourceStep⁺, Step⁺, Source, DamagedJournalStep, AskAgainStep, NextStep⁺, DiskCrash⁺, Event, MachineStep, DiskInternalStep, CrashStep, Allowed}
+use Rattle.source.specs.Within.{DiskEvent, Operation, Internal, Crashed, DiskStep⁺}
 
 -- The disk
 
@@ -98,6 +99,11 @@ module _ (g : Geometry) (s s′ s″ : D.Variables) where
       same =
           ext-getD none (s′ .journal) (s″ .journal) (h .source .journal-kept .size ∙ sym (k .source .journal-kept .size))
           (λ i l. havoc-one picture h k i (omega (arith, h .source .journal-kept .size, l)))
+
+  pub disk-step-one : (event : DiskEvent) → DiskStep⁺ g s s′ event → DiskStep⁺ g s s″ event → s′ ≡ s″
+  disk-step-one (Operation dop) h k = disk-next-one dop h k
+  disk-step-one (Internal step) h k = next-internal-one step h k
+  disk-step-one (Crashed picture) h k = diskCrash-one picture h k
 
 -- The machine. Two facts of one case, put together
 
@@ -169,10 +175,6 @@ module _ (g : Geometry) (C : Codec) (s s′ s″ : Variables) (dop : DiskOp) whe
 
   pub askAgain-one : (which : Bool) → AskAgain s s′ dop which → AskAgain s s″ dop which → s′ ≡ s″
   askAgain-one which = on-superblock s (λ s. AskAgainClauses s s′ dop which) (λ s. AskAgainClauses s s″ dop which) (λ s h k. h .next ∙ sym (k .next))
-
--- the range that is written is no choice either
-pub one-range-one : (C : Codec) (es : List JournalEntry) (jr jr′ : JournalRange) → OneRange C es jr → OneRange C es jr′ → jr ≡ jr′
-one-range-one C es jr jr′ h k = h .range-is ∙ sym (k .range-is)
 
 -- a commit is in flight, so the next state is said
 resp-one : (g : Geometry) (s : ReadyVariables) (s′ s″ : Variables) (dop : DiskOp) → InvReady g s
@@ -306,17 +308,17 @@ allowed-one g C L s s′ s″ (MachineStep dop machineStep) h k =
     λ i.
     record {
       machine = next-step-one g C L (s .machine) (s′ .machine) (s″ .machine) dop machineStep (h .meets .machine) (h .step .machine) (k .step .machine) i;
-      disk = disk-next-one g (s .disk) (s′ .disk) (s″ .disk) dop (h .step .disk) (k .step .disk) i;
+      disk = disk-step-one g (s .disk) (s′ .disk) (s″ .disk) (Operation dop) (h .step .disk) (k .step .disk) i;
     }
 allowed-one g C L s s′ s″ (DiskInternalStep step) h k =
     λ i.
     record {
       machine = (sym (h .step .machine) ∙ k .step .machine) i;
-      disk = next-internal-one g (s .disk) (s′ .disk) (s″ .disk) step (h .step .disk) (k .step .disk) i;
+      disk = disk-step-one g (s .disk) (s′ .disk) (s″ .disk) (Internal step) (h .step .disk) (k .step .disk) i;
     }
 allowed-one g C L s s′ s″ (CrashStep picture) h k =
     λ i.
     record {
       machine = (h .step .machine ∙ sym (k .step .machine)) i;
-      disk = diskCrash-one g (s .disk) (s′ .disk) (s″ .disk) picture (h .step .disk) (k .step .disk) i;
+      disk = disk-step-one g (s .disk) (s′ .disk) (s″ .disk) (Crashed picture) (h .step .disk) (k .step .disk) i;
     }

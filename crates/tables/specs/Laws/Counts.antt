@@ -58,18 +58,18 @@ module _ (most count : ℕ) (ids : List ℕ) where
   unfolding hasRoom
   no-room more h = lt-leb (count + more) (min most (length ids)) (omega arith)
 
+  pub addable : (id : ℕ) → idsOf (take count ids) id ≡ false → hasRoom most count 1 ids ≡ true → Addable most count ids id
+  addable id n e = let k = room-limit 1 e in let l = room-array 1 e in record { new = n; below = omega arith; free = omega arith }
+
   -- questions 5 and 8: a yes, and each no
   pub add-asked : (id : ℕ) → askAdd most count ids id ≡ 0 → Addable most count ids id
   unfolding askAdd
   add-asked id e =
-      let r = ask-yes 8 (hasRoom most count 1 ids) (omega arith) (andThen-right (ask 5 (not (idsOf (take count ids) id))) (ask 8 (hasRoom most count 1 ids)) e) in
-      let k = room-limit 1 r in
-      let l = room-array 1 r in
-      record {
-        new = not-in (idsOf (take count ids) id) (ask-yes 5 (not (idsOf (take count ids) id)) (omega arith) (andThen-left (ask 5 (not (idsOf (take count ids) id))) (ask 8 (hasRoom most count 1 ids)) e));
-        below = omega arith;
-        free = omega arith;
-      }
+      let q : ℕ = ask 5 (not (idsOf (take count ids) id)) in
+      let r : ℕ = ask 8 (hasRoom most count 1 ids) in
+      addable id
+      (not-in (idsOf (take count ids) id) (ask-yes 5 (not (idsOf (take count ids) id)) (omega arith) (andThen-left q r e)))
+      (ask-yes 8 (hasRoom most count 1 ids) (omega arith) (andThen-right q r e))
     where
       not-in : (b : Bool) → not b ≡ true → b ≡ false
       not-in true q = false-true q
@@ -117,18 +117,27 @@ module _ (limit count : ℕ) (ids : List ℕ) (t : Counted limit count ids) wher
   pub few-count : (n : ℕ) → AtMost n (idsOf (take count ids)) → count ≤ n
   few-count n m = let l = used-long in let h = distinct-few n (take count ids) (t .differ) m in omega arith
 
+  pub counted-at : (n : ℕ) → count ≤ n → Counted n count ids
+  counted-at n h = record { few = h; in-array = t .in-array; differ = t .differ }
+
   pub count-none : idsOf (take count ids) ≡ no-ids → count ≡ 0
   count-none e = sym used-long ∙ none-listed (take count ids) e
 
   -- question 8: one more is taken exactly where the set with it has at most so many
+  pub room-one : (most id : ℕ) → hasRoom most count 1 ids ≡ true → AtMost most (join (idsOf (take count ids)) id)
+  room-one most id e = let l = used-long in let h = room-limit most count ids 1 e in joined-few most (take count ids) id (omega arith)
+
+  pub one-room : (most id : ℕ) → most ≤ length ids → idsOf (take count ids) id ≡ false → AtMost most (join (idsOf (take count ids)) id) → hasRoom most count 1 ids ≡ true
+  one-room most id k e m =
+      let l = used-long in
+      let h = few-joined most (take count ids) id (t .differ) e m in
+      has-room most count ids 1 (omega arith) (omega arith)
+
   pub add-few : (most id : ℕ) → askAdd most count ids id ≡ 0 → AtMost most (join (idsOf (take count ids)) id)
   add-few most id e = let l = used-long in let h = add-asked most count ids id e .below in joined-few most (take count ids) id (omega arith)
 
   pub few-add : (most id : ℕ) → most ≤ length ids → idsOf (take count ids) id ≡ false → AtMost most (join (idsOf (take count ids)) id) → askAdd most count ids id ≡ 0
-  few-add most id k e m =
-      let l = used-long in
-      let h = few-joined most (take count ids) id (t .differ) e m in
-      asks-add most count ids id (record { new = e; below = omega arith; free = omega arith })
+  few-add most id k e m = asks-add most count ids id (addable most count ids id e (one-room most id k e m))
 
   -- a table at its limit has room for none, and no set of so many numbers holds one more
   pub full : (id : ℕ) → count ≡ limit → idsOf (take count ids) id ≡ false → AtMost limit (join (idsOf (take count ids)) id) → ⊥

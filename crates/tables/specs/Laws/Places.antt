@@ -15,7 +15,7 @@ use Rattle.laws.specs.Fold.{every-at, every-all}
 use Rattle.laws.specs.Maps.{mapOf-none}
 use Rattle.laws.specs.Part.{drop-step, drop-end, tail-is}
 use Rattle.laws.specs.Sets.{Ids, idsOf, mapOf, Distinct, idsOf-here, idsOf-there, bind-here, bind-there, out-head, out-tail, same-ids}
-use Rattle.tables.specs.Rows.{placeOf, distinct, within, same}
+use Rattle.tables.specs.Rows.{placeOf, distinct, within, sameIds}
 
 -- the place of the first id, and of another
 place-here : (id k : ℕ) (ks : List ℕ) → k ≡ id → placeOf id (k ∷ ks) ≡ 0
@@ -106,7 +106,7 @@ module _ {A : Type 0} where
       bind-there (mapOf ks vs) k (getD ks i c) v (λ q. true-false (sym (place-member ks i c (omega arith)) ∙ ap (idsOf ks) (sym q) ∙ t .0))
       ∙ held-at ks vs i c d (omega arith) (t .1) (omega arith)
 
-  -- the same in arrays with a count, of which the code looks at as many places as there are
+  -- the sameIds in arrays with a count, of which the code looks at as many places as there are
   module _ (ids : List ℕ) (vs : List A) (count id i n size : ℕ) (p : length ids ≡ size) (q : length vs ≡ size) (m : n ≡ min count size) (e : i ≡ placeOf id (take count ids)) where
     used-long : length (take count ids) ≡ n
     used-long = length-take count ids ∙ ap (min count) p ∙ sym m
@@ -164,8 +164,8 @@ within-all xs ys e i h =
     let p = place-below i xs h in
     ap (idsOf ys) (sym (place-id i xs 0 p)) ∙ every-at (idsOf ys) xs (placeOf i xs) 0 e p
 
-pub same-sets : (xs ys : List ℕ) → same xs ys ≡ true → idsOf xs ≡ idsOf ys
-unfolding same
+pub same-sets : (xs ys : List ℕ) → sameIds xs ys ≡ true → idsOf xs ≡ idsOf ys
+unfolding sameIds
 same-sets xs ys e =
     same-ids (idsOf xs) (idsOf ys) (within-all xs ys (also-left (within xs ys) (within ys xs) e)) (within-all ys xs (also-right (within xs ys) (within ys xs) e))
 
@@ -173,8 +173,8 @@ pub all-within : (xs ys : List ℕ) → ((i : ℕ) → idsOf xs i ≡ true → i
 unfolding within
 all-within xs ys f = every-all (idsOf ys) xs 0 (λ i h. f (getD xs i 0) (place-member xs i 0 h))
 
-pub sets-same : (xs ys : List ℕ) → idsOf xs ≡ idsOf ys → same xs ys ≡ true
-unfolding same
+pub sets-same : (xs ys : List ℕ) → idsOf xs ≡ idsOf ys → sameIds xs ys ≡ true
+unfolding sameIds
 sets-same xs ys e =
     also-both (within xs ys) (within ys xs)
     (all-within xs ys (λ i h. sym (ap (λ (s : Ids). s i) e) ∙ h))

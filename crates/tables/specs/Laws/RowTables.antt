@@ -1,6 +1,5 @@
 -- A table of ids with values and its map, over any value: what each change does to the map, the questions in the map's words, and that a
--- change keeps `Counted`, the arrays' lengths and a test of the values. Of an interval table t these are laws at `intervalRows t`, of the
--- sync table at `syncRows t`.
+-- change keeps `Counted`, the arrays' lengths and a test of the values. An interval table t is `intervalRows t`, a sync table `syncRows t`.
 use Prim.Native.Nat.{ℕ, _+_, _-_, _≤_, _<_}
 use mathlib.Core.Bool.{Bool, true, false, cond}
 use mathlib.Core.Path.{_≡_, refl, sym, _∙_, ap, subst}
@@ -13,12 +12,12 @@ use lib.Seq.{length-take-le, getD-take}
 use borrow.Author.Tests.{lt-ltb, le-ltb, le-leb}
 use Rattle.laws.specs.Choice.{also, also-false, split-bool, split-le}
 use Rattle.laws.specs.Fold.{every}
-use Rattle.laws.specs.Maps.{Values, values-bind, values-unbind, keys-bind, mapOf-keys, mapOf-none, unbind-same, values-of, of-values}
-use Rattle.laws.specs.Sets.{Ids, join, no-keys, bind, unbind, isKey, keys, idsOf, mapOf, AtMost, same-value}
+use Rattle.laws.specs.Maps.{Values, values-unbind, keys-bind, mapOf-keys, mapOf-none, unbind-same, values-of, of-values}
+use Rattle.laws.specs.Sets.{Ids, join, join-there, no-keys, bind, unbind, isKey, keys, idsOf, mapOf, AtMost, same-value}
 use Rattle.tables.specs.Rows.{placeOf, Counted, hasRoom, askAdd, inUse, filled, Rows, rowMap, addedRow, removedRow}
 use Rattle.tables.specs.Laws.Places.{place-below, place-out, place-id, place-value, held-at}
-use Rattle.tables.specs.Laws.Arrays.{map-added, map-removed, every-added, every-removed}
-use Rattle.tables.specs.Laws.Counts.{Addable, add-few, few-add, count-few, few-count, count-none, room-two, two-room, counted-added, counted-removed}
+use Rattle.tables.specs.Laws.Arrays.{set-added, map-added, map-removed, every-added, every-removed}
+use Rattle.tables.specs.Laws.Counts.{Addable, room-limit, room-array, add-few, few-add, count-few, few-count, count-none, room-two, two-room, counted-added, counted-removed}
 
 -- both arrays have one length, as the type says
 abbrev pub Level : {A : Type 0} → Rows A → Type 0
@@ -57,6 +56,20 @@ module _ {A : Type 0} (r : Rows A) where
   pub rows-addable : (most id : ℕ) → Addable most (r .count) (r .ids) id → rowMap r id ≡ none
   rows-addable most id a = mapOf-none (take (r .count) (r .ids)) (take (r .count) (r .values)) id (a .new)
 
+  -- where there is room for two, a second one may be added after a first
+  pub rows-second : (most id1 id2 : ℕ) (v : A) → hasRoom most (r .count) 2 (r .ids) ≡ true → idsOf (take (r .count) (r .ids)) id2 ≡ false → (id2 ≡ id1 → ⊥)
+      → Addable most (addedRow r id1 v .count) (addedRow r id1 v .ids) id2
+  rows-second most id1 id2 v e n o =
+      let k = room-limit most (r .count) (r .ids) 2 e in
+      let l = room-array most (r .count) (r .ids) 2 e in
+      let z = length-set (r .ids) (r .count) id1 in
+      subst (λ (u : Rows A). Addable most (u .count) (u .ids) id2) (sym (added-is id1 v (omega arith)))
+      (record {
+        new = ap (λ (s : Ids). s id2) (set-added (r .ids) (r .count) id1 (omega arith)) ∙ join-there (idsOf (take (r .count) (r .ids))) id1 id2 (λ q. o (sym q)) ∙ n;
+        below = omega arith;
+        free = omega arith;
+      })
+
   module _ (l : Level r) where
     -- the keys are the ids in use, and a new id
     pub rows-keys : keys (rowMap r) ≡ idsOf (take (r .count) (r .ids))
@@ -91,9 +104,6 @@ module _ {A : Type 0} (r : Rows A) where
     -- one more
     pub rows-added : (id : ℕ) (v : A) → r .count < length (r .ids) → rowMap r id ≡ none → rowMap (addedRow r id v) ≡ bind (rowMap r) id v
     rows-added id v h e = ap rowMap (added-is id v h) ∙ map-added (r .ids) (r .values) (r .count) id v h (omega arith) (rows-new id e)
-
-    pub rows-added-values : (P : A → Type 0) (id : ℕ) (v : A) → r .count < length (r .ids) → rowMap r id ≡ none → Values P (rowMap r) → P v → Values P (rowMap (addedRow r id v))
-    rows-added-values P id v h e f q = subst (Values P) (sym (rows-added id v h e)) (values-bind P (rowMap r) id v f q)
 
     module _ (most : ℕ) (c : Counted most (r .count) (r .ids)) where
       -- what stands at a place in use is in the map

@@ -1,6 +1,5 @@
 -- The table of sync requests and its map, through any f that says what a state number stands for: one more, one less, states moved on; the
--- questions in the map's words; and that each change keeps states 1 to 3 and the arrays' lengths. (`Counted` is kept as in RowTables; moved
--- states leave the ids and the count.)
+-- questions in the map's words; and that each change keeps `Counted`, states 1 to 3 and the arrays' lengths.
 use Prim.Native.Nat.{ℕ, _≤_, _<_}
 use mathlib.Core.Bool.{Bool, true, false, cond}
 use mathlib.Core.Path.{_≡_, refl, sym, _∙_, ap, subst}
@@ -17,8 +16,8 @@ use Rattle.laws.specs.Sets.{Ids, join, no-keys, bind, unbind, each, keys, idsOf
 use Rattle.tables.specs.declared.sync_table.SyncTable.{SyncTable}
 use Rattle.tables.specs.Rows.{placeOf, Counted, askAdd}
 use Rattle.tables.specs.SyncTable.{syncRows, stateMap, syncMap, noSyncs, SizedSyncs, okState, validStates, orZero, addedSync, removedSync, moved, movedSyncs}
-use Rattle.tables.specs.Laws.Counts.{add-few, few-add}
-use Rattle.tables.specs.Laws.RowTables.{Level, rows-keys, rows-added, rows-left, rows-new, rows-values, rows-added-valid, rows-removed-valid, added-ids-long, added-values-long, removed-ids-long, removed-values-long}
+use Rattle.tables.specs.Laws.Counts.{Addable, add-few, few-add, count-few, few-count}
+use Rattle.tables.specs.Laws.RowTables.{Level, rows-keys, rows-added, rows-left, rows-new, rows-values, rows-added-ok, rows-removed-ok, rows-added-valid, rows-removed-valid, added-ids-long, added-values-long, removed-ids-long, removed-values-long}
 
 -- the empty table
 pub states-empty : stateMap noSyncs ≡ no-keys
@@ -57,10 +56,12 @@ module _ (t : SyncTable) where
     level-syncs = l .ids-long ∙ sym (l .states-long)
 
     pub sized-added-syncs : (id s : ℕ) → SizedSyncs (addedSync t id s)
+    unfolding addedSync
     sized-added-syncs id s =
         record { ids-long = added-ids-long (syncRows t) id s ∙ l .ids-long; states-long = added-values-long (syncRows t) id s ∙ l .states-long }
 
     pub sized-removed-syncs : (i : ℕ) → SizedSyncs (removedSync t i)
+    unfolding removedSync
     sized-removed-syncs i =
         record { ids-long = removed-ids-long (syncRows t) 0 i ∙ l .ids-long; states-long = removed-values-long (syncRows t) 0 i ∙ l .states-long }
 
@@ -70,19 +71,30 @@ module _ (t : SyncTable) where
 
     -- states 1 to 3, kept
     pub syncs-added-valid : (id s : ℕ) → validStates t ≡ true → okState s ≡ true → validStates (addedSync t id s) ≡ true
+    unfolding addedSync validStates
     syncs-added-valid id s e h = rows-added-valid (syncRows t) okState level-syncs e id s h
 
     pub syncs-removed-valid : (most i : ℕ) → Counted most (t .count) (t .ids) → validStates t ≡ true → validStates (removedSync t i) ≡ true
+    unfolding removedSync validStates
     syncs-removed-valid most i c e = rows-removed-valid (syncRows t) okState level-syncs e 0 i (c .in-array)
 
   pub syncs-moved-valid : (from to : ℕ) → okState to ≡ true → validStates t ≡ true → validStates (movedSyncs from to t) ≡ true
-  unfolding movedSyncs
+  unfolding movedSyncs validStates
   syncs-moved-valid from to p e = ap (every okState) (sym (map-take (moved from to) (t .count) (t .states))) ∙ every-moved from to (take (t .count) (t .states)) p e
 
-  -- moved states leave ids and count
-  pub moved-counted : (from to most : ℕ) → Counted most (t .count) (t .ids) → Counted most (movedSyncs from to t .count) (movedSyncs from to t .ids)
-  unfolding movedSyncs
-  moved-counted from to most c = c
+  -- `Counted` is kept; moved states leave ids and count
+  module _ (most : ℕ) (c : Counted most (t .count) (t .ids)) where
+    pub syncs-added-ok : (id s : ℕ) → Addable most (t .count) (t .ids) id → Counted most (addedSync t id s .count) (addedSync t id s .ids)
+    unfolding addedSync
+    syncs-added-ok id s a = rows-added-ok (syncRows t) most c id s a
+
+    pub syncs-removed-ok : (i : ℕ) → Counted most (removedSync t i .count) (removedSync t i .ids)
+    unfolding removedSync
+    syncs-removed-ok i = rows-removed-ok (syncRows t) most c 0 i
+
+    pub syncs-moved-ok : (from to : ℕ) → Counted most (movedSyncs from to t .count) (movedSyncs from to t .ids)
+    unfolding movedSyncs
+    syncs-moved-ok from to = c
 
   module _ {A : Type 0} (f : ℕ → A) where
     -- states moved on: where the move, seen through f, is φ
@@ -95,6 +107,7 @@ module _ (t : SyncTable) where
 
     -- a state in the source's words is the number that is told for the id
     pub known-state : (id : ℕ) (a : A) (k : ℕ) → validStates t ≡ true → ((n : ℕ) → okState n ≡ true → f n ≡ a → n ≡ k) → syncMap f t id ≡ some a → orZero (stateMap t id) ≡ k
+    unfolding validStates
     known-state id a k v u e =
         let w = each-some f (stateMap t) id a e in
         ap orZero (w .1) ∙ u (w .0) (rows-values (syncRows t) okState v id (w .0) (w .1)) (w .2)
@@ -111,12 +124,21 @@ module _ (t : SyncTable) where
 
       -- one more, and one less
       pub syncs-added : (id s : ℕ) → t .count < length (t .ids) → syncMap f t id ≡ none → syncMap f (addedSync t id s) ≡ bind (syncMap f t) id (f s)
+      unfolding addedSync
       syncs-added id s h e =
           ap (each f) (rows-added (syncRows t) (level-syncs l) id s h (each-none f (stateMap t) id e)) ∙ each-bind f (stateMap t) id s
 
       module _ (most : ℕ) (c : Counted most (t .count) (t .ids)) where
         pub syncs-left : (id : ℕ) → syncMap f (removedSync t (placeOf id (take (t .count) (t .ids)))) ≡ unbind (syncMap f t) id
+        unfolding removedSync
         syncs-left id = ap (each f) (rows-left (syncRows t) (level-syncs l) most c 0 id) ∙ each-unbind f (stateMap t) id
+
+        -- the count against a bound on the keys
+        pub syncs-few : (n : ℕ) → t .count ≤ n → AtMost n (keys (syncMap f t))
+        syncs-few n h = subst (AtMost n) (sym syncs-keys) (count-few most (t .count) (t .ids) c n h)
+
+        pub few-syncs : (n : ℕ) → AtMost n (keys (syncMap f t)) → t .count ≤ n
+        few-syncs n m = few-count most (t .count) (t .ids) c n (subst (AtMost n) syncs-keys m)
 
         -- questions 5 and 8 in the map's words
         bound-keys : (id : ℕ) (a : A) → keys (bind (syncMap f t) id a) ≡ join (idsOf (take (t .count) (t .ids))) id

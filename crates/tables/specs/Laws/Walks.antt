@@ -1,5 +1,5 @@
--- The walks over values: is each of the first n of an array as it should be, and every element of an array changed in place. Over any
--- element. Assumes nothing.
+-- The walks over values: is each of the first n of an array as it should be, and every element of an array changed in place, over any
+-- element; and which numbers are states. Assumes nothing.
 use Prim.Native.Nat.{ℕ, _+_, _≤_, _<_, min}
 use mathlib.Core.Bool.{Bool, true, false}
 use mathlib.Core.Path.{_≡_, sym, _∙_, ap}
@@ -37,7 +37,7 @@ cut-front f xs count n size h m = ap f (ap (λ (j : ℕ). take j xs) m ∙ take-
 pub mapped : (X Y : Type 0) (f : X → Y) (l : List X) (n : ℕ) → length (map f l) ≡ n → length l ≡ n
 mapped X Y f l n e = sym (length-map l f) ∙ e
 
--- the elements up to a place changed, the others as they were: nothing yet, one more, all
+-- the elements up to a place changed, the others as they were: one more, all
 module _ {A : Type 0} (f : A → A) (xs s : List A) (i : ℕ) where
   pub changed-more : (d : A) → xs ≡ map f (take i s) ++ drop i s → i < length s → set xs i (f (getD xs i d)) ≡ map f (take (i + 1) s) ++ drop (i + 1) s
   changed-more d e h =

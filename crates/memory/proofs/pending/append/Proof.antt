@@ -1,19 +1,22 @@
 use borrow.Author.Needs.{needs}
-use mathlib.Core.Path.{refl, sym, _∙_, ap}
+use mathlib.Core.Path.{sym, _∙_}
 use native.Mathlib.Omega.{arith}
-use Rattle.memory.specs.Entries.{Memory}
-use Rattle.memory.specs.PendingLaws.{append-now, append-kept, append-asked, append-bytes, append-lens}
+use Rattle.memory.specs.Answer.{pending-stopped}
+use Rattle.memory.specs.PendingLaws.{append-pending, append-given, append-sums, append-full, append-done}
 use Rattle.memory.proofs.pending.append.Statement.{statement}
 use Rattle.memory.proofs.pending.append.Tie as tie
 
-ask-append-requires : tie.Need-ask-append-requires
-ask-append-requires c κs = search needs
+count-pending-requires : tie.Need-count-pending-requires
+count-pending-requires c κs = search needs
 
-enum-known-a : tie.Need-enum-known-a
-enum-known-a c = search needs
+enum-known-p : tie.Need-enum-known-p
+enum-known-p c = search needs
 
 enum-told : tie.Need-enum-told
 enum-told c = search needs
+
+refusal-requires : tie.Need-refusal-requires
+refusal-requires c κs = search needs
 
 same-length : tie.Need-same-length
 same-length c = search needs
@@ -22,50 +25,16 @@ same-length-2 : tie.Need-same-length-2
 same-length-2 c = search needs
 
 returns : tie.Need-returns
-returns c =
-    let asked = c .before .before .ask-append .ensures in
-    let kept = append-kept _ _ _ _ (sym (c .enum-told .given .1) ∙ asked) in
-    (asked, (ap (λ (m : Memory). m .bytes) (sym kept), ap (λ (m : Memory). m .lens) (sym kept)))
+returns c = append-pending _ _ _ _ (pending-stopped _ _ _ _ _ _ (c .refusal .ensures) (c .before .enum-told .given .1) (c .before .before .before .count-pending .ensures))
 
-bytes-of-requires : tie.Need-bytes-of-requires
-bytes-of-requires c κs =
-    let yes = append-now _ _ _ _ (sym (c .before .a .given .1) ∙ c .before .before .before .ask-append .ensures) in
-    let g = append-asked _ _ _ (yes .0) .given in
-    let few = g .few in
-    record { there = g .there; few = omega arith }
+count-given-requires : tie.Need-count-given-requires
+count-given-requires c κs = search needs
 
-sub-at : tie.Need-sub-at
-sub-at c =
-    let yes = append-now _ _ _ _ (sym (c .before .before .before .a .given .1) ∙ c .before .before .before .before .before .ask-append .ensures) in
-    omega (arith, yes .2, c .before .bytes-of .ensures)
+enum-known-g : tie.Need-enum-known-g
+enum-known-g c = search needs
 
-sub-write-bytes : tie.Need-sub-write-bytes
-sub-write-bytes c = search needs
-
-part-write-bytes-start : tie.Need-part-write-bytes-start
-part-write-bytes-start c = search needs
-
-part-write-bytes-end : tie.Need-part-write-bytes-end
-part-write-bytes-end c =
-    let yes = append-now _ _ _ _ (sym (c .before .before .before .a .given .1) ∙ c .before .before .before .before .before .ask-append .ensures) in
-    omega (arith, append-asked _ _ _ (yes .0) .given .fit, c .before .bytes-of .ensures)
-
-write-bytes-requires : tie.Need-write-bytes-requires
-write-bytes-requires c κs = search needs
-
-sub-write-lengths : tie.Need-sub-write-lengths
-sub-write-lengths c = search needs
-
-part-write-lengths-start : tie.Need-part-write-lengths-start
-part-write-lengths-start c = search needs
-
-part-write-lengths-end : tie.Need-part-write-lengths-end
-part-write-lengths-end c =
-    let yes = append-now _ _ _ _ (sym (c .before .before .before .before .before .before .before .before .a .given .1) ∙ c .before .before .before .before .before .before .before .before .before .before .ask-append .ensures) in
-    omega (arith, append-asked _ _ _ (yes .0) .given .there)
-
-write-lengths-requires : tie.Need-write-lengths-requires
-write-lengths-requires c κs = search needs
+enum-told-2 : tie.Need-enum-told-2
+enum-told-2 c = search needs
 
 same-length-3 : tie.Need-same-length-3
 same-length-3 c = search needs
@@ -75,36 +44,65 @@ same-length-4 c = search needs
 
 returns-2 : tie.Need-returns-2
 returns-2 c =
-    let asked = sym (c .before .before .before .before .before .before .before .before .before .before .before .before .before .a .given .1) ∙ c .before .before .before .before .before .before .before .before .before .before .before .before .before .before .before .ask-append .ensures in
-    let yes = append-now _ _ _ _ asked in
-    let new = c .before .before .before .before .before .before .before .before .before .before .before .bytes-of .ensures in (
-      asked,
-      (
-        append-bytes _ _ _ _ _ _ (yes .0) (omega (arith, yes .2, new)) new (c .before .before .before .before .before .before .before .write-bytes .ensures),
-        append-lens _ _ _ _ _ _ (yes .0) refl refl (c .before .before .write-lengths .ensures),
-      ),
-    )
+    let k = append-given _ _ _ _ _ (sym (c .before .before .before .before .p .given .1) ∙ c .before .before .before .before .before .before .count-pending .ensures) _ (sym (c .enum-told2 .given .1) ∙ c .before .before .count-given .ensures) in
+    (c .enum-told2 .given .1 ∙ k .0, k .1)
+
+add-t20 : tie.Need-add-t20
+add-t20 c = let s = append-sums _ _ _ _ _ (sym (c .before .before .before .before .before .before .before .p .given .1) ∙ c .before .before .before .before .before .before .before .before .before .count-pending .ensures) _ (sym (c .before .before .before .g .given .1) ∙ c .before .before .before .before .before .count-given .ensures) in omega arith
+
+add-t21 : tie.Need-add-t21
+add-t21 c = let s = append-sums _ _ _ _ _ (sym (c .before .before .before .before .before .before .before .before .before .p .given .1) ∙ c .before .before .before .before .before .before .before .before .before .before .before .count-pending .ensures) _ (sym (c .before .before .before .before .before .g .given .1) ∙ c .before .before .before .before .before .before .before .count-given .ensures) in omega arith
+
+ask-room-requires : tie.Need-ask-room-requires
+ask-room-requires c κs = search needs
+
+same-length-5 : tie.Need-same-length-5
+same-length-5 c = search needs
+
+same-length-6 : tie.Need-same-length-6
+same-length-6 c = search needs
+
+returns-3 : tie.Need-returns-3
+returns-3 c = append-full _ _ _ _ _ (sym (c .before .before .before .before .before .before .before .before .before .before .before .p .given .1) ∙ c .before .before .before .before .before .before .before .before .before .before .before .before .before .count-pending .ensures) _ (sym (c .before .before .before .before .before .before .before .g .given .1) ∙ c .before .before .before .before .before .before .before .before .before .count-given .ensures) _ (c .if1 .taken) (c .before .ask-room .ensures)
+
+append-entries-requires : tie.Need-append-entries-requires
+append-entries-requires c κs = search needs
+
+same-length-7 : tie.Need-same-length-7
+same-length-7 c = search needs
+
+same-length-8 : tie.Need-same-length-8
+same-length-8 c = search needs
+
+returns-4 : tie.Need-returns-4
+returns-4 c =
+    append-done _ _ _ _ _ (sym (c .before .before .before .before .before .before .before .before .before .before .before .before .before .before .before .before .before .before .p .given .1) ∙ c .before .before .before .before .before .before .before .before .before .before .before .before .before .before .before .before .before .before .before .before .count-pending .ensures) _ (sym (c .before .before .before .before .before .before .before .before .before .before .before .before .before .before .g .given .1) ∙ c .before .before .before .before .before .before .before .before .before .before .before .before .before .before .before .before .count-given .ensures) _ _ _ (c .before .before .before .before .before .before .before .before .ask-room .ensures) (c .before .before .before .before .before .before .before .if1 .left)
+    (c .before .before .before .before .append-entries .ensures .0) (c .before .before .before .before .append-entries .ensures .1)
 
 pub append-spec : {M : Type 1} → statement M
 append-spec =
     tie.close
     (tie.spec
-    ask-append-requires
-    enum-known-a
+    count-pending-requires
+    enum-known-p
     enum-told
+    refusal-requires
     same-length
     same-length-2
     returns
-    bytes-of-requires
-    sub-at
-    sub-write-bytes
-    part-write-bytes-start
-    part-write-bytes-end
-    write-bytes-requires
-    sub-write-lengths
-    part-write-lengths-start
-    part-write-lengths-end
-    write-lengths-requires
+    count-given-requires
+    enum-known-g
+    enum-told-2
     same-length-3
     same-length-4
-    returns-2)
+    returns-2
+    add-t20
+    add-t21
+    ask-room-requires
+    same-length-5
+    same-length-6
+    returns-3
+    append-entries-requires
+    same-length-7
+    same-length-8
+    returns-4)

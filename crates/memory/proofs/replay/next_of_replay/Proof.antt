@@ -1,65 +1,63 @@
 use borrow.Author.Needs.{needs}
 use mathlib.Core.Path.{sym, _∙_}
 use native.Mathlib.Omega.{arith}
-use Rattle.laws.specs.Choice.{tests, ask, andThen}
-use Rattle.memory.specs.Answer.{counted}
-use Rattle.memory.specs.PendingLaws.{given-countable}
-use Rattle.memory.specs.Replay.{nextAnswer, askNext}
-use Rattle.memory.specs.ReplayLaws.{compared, next-now, next-sums}
+use Rattle.memory.specs.ReplayLaws.{next-unheld, next-ungiven, next-sums, next-no, next-yes}
 use Rattle.memory.proofs.replay.next_of_replay.Statement.{statement}
 use Rattle.memory.proofs.replay.next_of_replay.Tie as tie
 
-ask-replay-requires : tie.Need-ask-replay-requires
-ask-replay-requires c κs = search needs
+count-left-requires : tie.Need-count-left-requires
+count-left-requires c κs = search needs
+
+enum-known-l : tie.Need-enum-known-l
+enum-known-l c = search needs
+
+enum-told : tie.Need-enum-told
+enum-told c = search needs
 
 returns : tie.Need-returns
-unfolding nextAnswer counted askNext andThen ask
-returns c = search (tests, ← c .before .ask-replay .ensures)
+returns c = next-unheld _ _ _ _ _ _ (c .enum-told .given .1) (c .before .before .count-left .ensures)
 
-ask-given-requires : tie.Need-ask-given-requires
-ask-given-requires c κs = search needs
+count-given-requires : tie.Need-count-given-requires
+count-given-requires c κs = search needs
+
+enum-known-g : tie.Need-enum-known-g
+enum-known-g c = search needs
+
+enum-told-2 : tie.Need-enum-told-2
+enum-told-2 c = search needs
 
 returns-2 : tie.Need-returns-2
-unfolding nextAnswer counted askNext andThen ask
-returns-2 c = search (tests, ← c .before .ask-given .ensures, ← c .before .before .before .ask-replay .ensures)
+returns-2 c = next-ungiven _ _ _ _ _ (sym (c .before .before .before .before .l .given .1) ∙ c .before .before .before .before .before .before .count-left .ensures) _ _ (c .enum-told2 .given .1) (c .before .before .count-given .ensures)
 
 is-next-requires : tie.Need-is-next-requires
-is-next-requires c κs = compared _ _ _ _ (sym (c .before .before .before .ask-replay .ensures) ∙ c .before .before .if1 .left) (sym (c .before .ask-given .ensures) ∙ c .if2 .left)
+is-next-requires c κs = search needs
 
-bytes-of-requires : tie.Need-bytes-of-requires
-bytes-of-requires c κs = given-countable _ (sym (c .before .before .before .ask-given .ensures) ∙ c .before .before .if2 .left)
+add-t15 : tie.Need-add-t15
+add-t15 c = let s = next-sums _ _ _ _ _ (sym (c .before .before .before .before .before .before .before .before .before .l .given .1) ∙ c .before .before .before .before .before .before .before .before .before .before .before .count-left .ensures) _ (sym (c .before .before .before .before .before .g .given .1) ∙ c .before .before .before .before .before .before .before .count-given .ensures) in omega arith
 
-add-entries : tie.Need-add-entries
-add-entries c =
-    let small = next-sums _ _ _ _ (sym (c .before .before .before .before .before .before .before .ask-replay .ensures) ∙ c .before .before .before .before .before .before .if1 .left) (sym (c .before .before .before .before .before .ask-given .ensures) ∙ c .before .before .before .before .if2 .left) in
-    omega arith
-
-add-sum : tie.Need-add-sum
-add-sum c =
-    let small = next-sums _ _ _ _ (sym (c .before .before .before .before .before .before .before .before .ask-replay .ensures) ∙ c .before .before .before .before .before .before .before .if1 .left) (sym (c .before .before .before .before .before .before .ask-given .ensures) ∙ c .before .before .before .before .before .if2 .left) in
-    omega (arith, c .before .before .bytes-of .ensures)
+add-t16 : tie.Need-add-t16
+add-t16 c = let s = next-sums _ _ _ _ _ (sym (c .before .before .before .before .before .before .before .before .before .before .before .l .given .1) ∙ c .before .before .before .before .before .before .before .before .before .before .before .before .before .count-left .ensures) _ (sym (c .before .before .before .before .before .before .before .g .given .1) ∙ c .before .before .before .before .before .before .before .before .before .count-given .ensures) in omega arith
 
 returns-3 : tie.Need-returns-3
-returns-3 c =
-    next-now _ _ _ _ _ (sym (c .before .before .before .before .before .before .before .before .ask-replay .ensures) ∙ c .before .before .before .before .before .before .before .if1 .left) (sym (c .before .before .before .before .before .before .ask-given .ensures) ∙ c .before .before .before .before .before .if2 .left)
-    (sym (c .before .before .before .before .is-next .ensures) ∙ c .before .before .before .if3 .taken)
-    (c .before .before .bytes-of .ensures)
+returns-3 c = next-yes _ _ _ _ _ (sym (c .before .before .before .before .before .before .before .before .before .before .before .l .given .1) ∙ c .before .before .before .before .before .before .before .before .before .before .before .before .before .count-left .ensures) _ (sym (c .before .before .before .before .before .before .before .g .given .1) ∙ c .before .before .before .before .before .before .before .before .before .count-given .ensures) _ (c .before .before .before .before .before .is-next .ensures) (c .before .before .before .before .if1 .taken)
 
 returns-4 : tie.Need-returns-4
-unfolding nextAnswer counted askNext andThen ask
-returns-4 c = search (tests, c .if3 .left, ← c .before .is-next .ensures, ← c .before .before .before .ask-given .ensures, ← c .before .before .before .before .before .ask-replay .ensures)
+returns-4 c = next-no _ _ _ _ _ (sym (c .before .before .before .before .before .before .before .l .given .1) ∙ c .before .before .before .before .before .before .before .before .before .count-left .ensures) _ (sym (c .before .before .before .g .given .1) ∙ c .before .before .before .before .before .count-given .ensures) _ (c .before .is-next .ensures) (c .if1 .left)
 
 pub next-of-replay-spec : {M : Type 1} → statement M
 next-of-replay-spec =
     tie.close
     (tie.spec
-    ask-replay-requires
+    count-left-requires
+    enum-known-l
+    enum-told
     returns
-    ask-given-requires
+    count-given-requires
+    enum-known-g
+    enum-told-2
     returns-2
     is-next-requires
-    bytes-of-requires
-    add-entries
-    add-sum
+    add-t15
+    add-t16
     returns-3
     returns-4)

@@ -23,6 +23,9 @@ part-total-end c = search needs
 total-requires : tie.Need-total-requires
 total-requires c κs = search needs
 
+cast-before : tie.Need-cast-before
+cast-before c = search needs
+
 add-result : tie.Need-add-result
 add-result c = search needs
 
@@ -45,6 +48,7 @@ body-start-spec =
     part-total-start
     part-total-end
     total-requires
+    cast-before
     add-result
     add-result-2
     returns)

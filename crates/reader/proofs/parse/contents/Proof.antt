@@ -31,6 +31,9 @@ part-total-end c = search needs
 total-requires : tie.Need-total-requires
 total-requires c κs = search needs
 
+cast-bytes : tie.Need-cast-bytes
+cast-bytes c = search needs
+
 returns-3 : tie.Need-returns-3
 returns-3 c = contents-is _ _ _ _ (c .before .before .block-count .ensures .0) (c .before .before .before .before .entry-count .ensures .0) (omega arith) (c .total .ensures .0)
 
@@ -47,4 +50,5 @@ contents-spec =
     part-total-start
     part-total-end
     total-requires
+    cast-bytes
     returns-3)

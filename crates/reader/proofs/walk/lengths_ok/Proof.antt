@@ -1,30 +1,28 @@
 use Prim.Native.Nat.{_-_, _≤_}
-use denote.Ref.{now}
+use borrow.Author.Needs.{needs}
 use lib.ListN.{length, drop}
-use mathlib.Core.Path.{_≡_, refl}
+use mathlib.Core.Path.{_≡_}
 use native.Mathlib.Omega.{arith}
-use Rattle.laws.specs.Fold.{every, every-no, every-yes, every-done}
-use Rattle.range.specs.Bytes.{ok-yes, ok-short}
+use Rattle.laws.specs.Choice.{also, true-also}
+use Rattle.laws.specs.Fold.{every, flag-turn, flag-end}
 use Rattle.range.specs.Form.{MostEntryLength, okLength}
 use Rattle.reader.proofs.walk.lengths_ok.Statement.{statement}
 use Rattle.reader.proofs.walk.lengths_ok.Tie as tie
 
 abbrev Inv-loop : tie.InvT-loop
-Inv-loop lengths i₀ i = (i ≤ length lengths) × (every (okLength MostEntryLength) (drop i lengths) ≡ every (okLength MostEntryLength) lengths)
+Inv-loop lengths ok₀ i₀ ok i = (i ≤ length lengths) × (also ok (every (okLength MostEntryLength) (drop i lengths)) ≡ every (okLength MostEntryLength) lengths)
 
 abbrev μ-loop : tie.MeasureT-loop
-μ-loop lengths i₀ i = length lengths - i
+μ-loop lengths ok₀ i₀ ok i = length lengths - i
 
 loop-holds : tie.Need-loop-holds Inv-loop μ-loop
-loop-holds c = (omega arith, refl)
+loop-holds c = (omega arith, true-also _)
 
-shared-slice-read-if1 : tie.Need-shared-slice-read-if1 Inv-loop μ-loop
-shared-slice-read-if1 c = omega arith
+shared-slice-read-and-some : tie.Need-shared-slice-read-and-some Inv-loop μ-loop
+shared-slice-read-and-some c = omega arith
 
-returns : tie.Need-returns Inv-loop μ-loop
-returns c =
-    let i = c .before .before .before in
-    every-no (okLength MostEntryLength) (now (i .before .args .lengths)) (i .loop .i) 0 (omega arith) (i .loop .inv .1) (ok-short MostEntryLength _ (omega arith))
+and-some-requires : tie.Need-and-some-requires Inv-loop μ-loop
+and-some-requires c κs = search needs
 
 add-i : tie.Need-add-i Inv-loop μ-loop
 add-i c = omega arith
@@ -35,14 +33,13 @@ loop-less c = omega arith
 loop-again : tie.Need-loop-again Inv-loop μ-loop
 loop-again c =
     let i = c .before .before .before in
-    let l = now (i .before .args .lengths) in
-    let byte = c .before .shared-slice-known .given (i .loop .i) in (
-      omega arith,
-      every-yes (okLength MostEntryLength) l (i .loop .i) 0 (omega arith) (i .loop .inv .1) (ok-yes MostEntryLength _ (omega arith) (omega arith)),
-    )
+    let l = i .before .before .args .lengths .now in
+    (omega arith, flag-turn (okLength MostEntryLength) l (i .loop .i) 0 _ _ (omega arith) (i .loop .inv .1) (c .and-some .ensures))
 
-returns-2 : tie.Need-returns-2 Inv-loop μ-loop
-returns-2 c = every-done (okLength MostEntryLength) (now (c .before .before .args .lengths)) (c .before .loop .i) (omega arith) (c .before .loop .inv .1)
+returns : tie.Need-returns Inv-loop μ-loop
+returns c =
+    let i = c .before in
+    flag-end (okLength MostEntryLength) (i .before .before .args .lengths .now) (i .loop .i) _ (omega arith) (i .loop .inv .1)
 
 pub lengths-ok-spec : {M : Type 1} → statement M
 lengths-ok-spec =
@@ -51,9 +48,9 @@ lengths-ok-spec =
     Inv-loop
     μ-loop
     loop-holds
-    shared-slice-read-if1
-    returns
+    shared-slice-read-and-some
+    and-some-requires
     add-i
     loop-less
     loop-again
-    returns-2)
+    returns)

@@ -1,5 +1,5 @@
-use Prim.Native.Nat.{_+_, _*_, _-_, _≤_}
-use denote.Ref.{now}
+use Prim.Native.Nat.{_+_, _-_, _*_, _≤_}
+use borrow.Author.Needs.{needs}
 use lib.ListN.{length, drop}
 use mathlib.Core.Path.{_≡_}
 use native.Mathlib.Omega.{arith}
@@ -8,10 +8,10 @@ use Rattle.reader.proofs.walk.total.Statement.{statement}
 use Rattle.reader.proofs.walk.total.Tie as tie
 
 abbrev Inv-loop : tie.InvT-loop
-Inv-loop lengths sum₀ i₀ t i = (i ≤ length lengths) × (t ≤ 255 * i) × (t + sum (drop i lengths) ≡ sum lengths)
+Inv-loop lengths bytes₀ i₀ bytes i = (i ≤ length lengths) × (bytes ≤ 255 * i) × (bytes + sum (drop i lengths) ≡ sum lengths)
 
 abbrev μ-loop : tie.MeasureT-loop
-μ-loop lengths sum₀ i₀ t i = length lengths - i
+μ-loop lengths bytes₀ i₀ bytes i = length lengths - i
 
 loop-holds : tie.Need-loop-holds Inv-loop μ-loop
 loop-holds c = omega arith
@@ -20,10 +20,10 @@ shared-slice-read-wide : tie.Need-shared-slice-read-wide Inv-loop μ-loop
 shared-slice-read-wide c = omega arith
 
 wide-requires : tie.Need-wide-requires Inv-loop μ-loop
-wide-requires c κs = omega arith
+wide-requires c κs = search needs
 
-add-sum : tie.Need-add-sum Inv-loop μ-loop
-add-sum c = omega arith
+add-bytes : tie.Need-add-bytes Inv-loop μ-loop
+add-bytes c = omega arith
 
 add-i : tie.Need-add-i Inv-loop μ-loop
 add-i c = omega arith
@@ -34,12 +34,12 @@ loop-less c = omega arith
 loop-again : tie.Need-loop-again Inv-loop μ-loop
 loop-again c =
     let i = c .before .before .before in
-    let l = now (i .before .before .args .lengths) in
+    let l = i .before .before .args .lengths .now in
     (omega arith, omega arith, omega (arith, sum-step l (i .loop .i) (omega arith)))
 
 returns : tie.Need-returns Inv-loop μ-loop
 returns c =
-    let l = now (c .before .before .before .args .lengths) in
+    let l = c .before .before .before .args .lengths .now in
     (omega (arith, sum-end l (c .before .loop .i) (omega arith)), omega (arith, sum-end l (c .before .loop .i) (omega arith)))
 
 pub total-spec : {M : Type 1} → statement M
@@ -51,7 +51,7 @@ total-spec =
     loop-holds
     shared-slice-read-wide
     wide-requires
-    add-sum
+    add-bytes
     add-i
     loop-less
     loop-again

@@ -1,33 +1,28 @@
-use Prim.Native.Nat.{_-_, _≤_, _<_}
-use borrow.Author.Tests.{eq-eqb, ne-eqb}
-use denote.Ref.{now}
-use lib.ListN.{length, drop, getD}
-use mathlib.Core.Path.{_≡_, refl}
+use Prim.Native.Nat.{_-_, _≤_}
+use borrow.Author.Needs.{needs}
+use lib.ListN.{length, drop}
+use mathlib.Core.Path.{_≡_}
 use native.Mathlib.Omega.{arith}
-use Rattle.laws.specs.Fold.{every, every-no, every-yes, every-done}
+use Rattle.laws.specs.Choice.{also, true-also}
+use Rattle.laws.specs.Fold.{every, flag-turn, flag-end}
 use Rattle.range.specs.Form.{isZero}
 use Rattle.reader.proofs.walk.zeros.Statement.{statement}
 use Rattle.reader.proofs.walk.zeros.Tie as tie
 
 abbrev Inv-loop : tie.InvT-loop
-Inv-loop s i₀ i = (i ≤ length s) × (every isZero (drop i s) ≡ every isZero s)
+Inv-loop s ok₀ i₀ ok i = (i ≤ length s) × (also ok (every (isZero) (drop i s)) ≡ every (isZero) s)
 
 abbrev μ-loop : tie.MeasureT-loop
-μ-loop s i₀ i = length s - i
+μ-loop s ok₀ i₀ ok i = length s - i
 
 loop-holds : tie.Need-loop-holds Inv-loop μ-loop
-loop-holds c = (omega arith, refl)
+loop-holds c = (omega arith, true-also _)
 
-shared-slice-read-if1 : tie.Need-shared-slice-read-if1 Inv-loop μ-loop
-shared-slice-read-if1 c = omega arith
+shared-slice-read-and-zero : tie.Need-shared-slice-read-and-zero Inv-loop μ-loop
+shared-slice-read-and-zero c = omega arith
 
-returns : tie.Need-returns Inv-loop μ-loop
-unfolding isZero
-returns c =
-    let i = c .before .before .before in
-    let l = now (i .before .args .s) in
-    let some : 0 < getD l (i .loop .i) 0 = omega arith in
-    every-no isZero l (i .loop .i) 0 (omega arith) (i .loop .inv .1) (ne-eqb (getD l (i .loop .i) 0) 0 (omega arith))
+and-zero-requires : tie.Need-and-zero-requires Inv-loop μ-loop
+and-zero-requires c κs = search needs
 
 add-i : tie.Need-add-i Inv-loop μ-loop
 add-i c = omega arith
@@ -36,15 +31,15 @@ loop-less : tie.Need-loop-less Inv-loop μ-loop
 loop-less c = omega arith
 
 loop-again : tie.Need-loop-again Inv-loop μ-loop
-unfolding isZero
 loop-again c =
     let i = c .before .before .before in
-    let l = now (i .before .args .s) in
-    let none : getD l (i .loop .i) 0 ≡ 0 = omega arith in
-    (omega arith, every-yes isZero l (i .loop .i) 0 (omega arith) (i .loop .inv .1) (eq-eqb (getD l (i .loop .i) 0) 0 none))
+    let l = i .before .before .args .s .now in
+    (omega arith, flag-turn (isZero) l (i .loop .i) 0 _ _ (omega arith) (i .loop .inv .1) (c .and-zero .ensures))
 
-returns-2 : tie.Need-returns-2 Inv-loop μ-loop
-returns-2 c = every-done isZero (now (c .before .before .args .s)) (c .before .loop .i) (omega arith) (c .before .loop .inv .1)
+returns : tie.Need-returns Inv-loop μ-loop
+returns c =
+    let i = c .before in
+    flag-end (isZero) (i .before .before .args .s .now) (i .loop .i) _ (omega arith) (i .loop .inv .1)
 
 pub zeros-spec : {M : Type 1} → statement M
 zeros-spec =
@@ -53,9 +48,9 @@ zeros-spec =
     Inv-loop
     μ-loop
     loop-holds
-    shared-slice-read-if1
-    returns
+    shared-slice-read-and-zero
+    and-zero-requires
     add-i
     loop-less
     loop-again
-    returns-2)
+    returns)

@@ -1,40 +1,39 @@
 use Prim.Native.Nat.{_-_, _≤_}
+use borrow.Author.Needs.{needs}
 use lib.ListN.{length, drop}
-use mathlib.Core.Path.{_≡_, refl}
+use mathlib.Core.Path.{_≡_}
 use native.Mathlib.Omega.{arith}
-use Rattle.laws.specs.Fold.{same, same-short, same-no, same-yes, same-done}
+use Rattle.laws.specs.Choice.{also, true-also}
+use Rattle.laws.specs.Fold.{same, same-short, same-turn, same-end}
 use Rattle.runs.proofs.compare.same_lengths.Statement.{statement}
 use Rattle.runs.proofs.compare.same_lengths.Tie as tie
 
 abbrev Inv-loop : tie.InvT-loop
-Inv-loop a b i₀ i = (i ≤ length a) × (same (drop i a) (drop i b) ≡ same a b)
+Inv-loop a b ok₀ i₀ ok i = (i ≤ length a) × (also ok (same (drop i a) (drop i b)) ≡ same a b)
 
 abbrev μ-loop : tie.MeasureT-loop
-μ-loop a b i₀ i = length a - i
+μ-loop a b ok₀ i₀ ok i = length a - i
 
 returns : tie.Need-returns Inv-loop μ-loop
 returns c = same-short _ _ (c .if1 .taken)
 
 loop-holds : tie.Need-loop-holds Inv-loop μ-loop
-loop-holds c = (omega arith, refl)
+loop-holds c = (omega arith, true-also _)
 
-mul-if2 : tie.Need-mul-if2 Inv-loop μ-loop
-mul-if2 c = omega arith
+mul-and-length : tie.Need-mul-and-length Inv-loop μ-loop
+mul-and-length c = omega arith
 
-shared-slice-read-if2 : tie.Need-shared-slice-read-if2 Inv-loop μ-loop
-shared-slice-read-if2 c = omega arith
+shared-slice-read-and-length : tie.Need-shared-slice-read-and-length Inv-loop μ-loop
+shared-slice-read-and-length c = omega arith
 
-mul-if2-2 : tie.Need-mul-if2-2 Inv-loop μ-loop
-mul-if2-2 c = omega arith
+mul-and-length-2 : tie.Need-mul-and-length-2 Inv-loop μ-loop
+mul-and-length-2 c = omega arith
 
-shared-slice-read-if2-2 : tie.Need-shared-slice-read-if2-2 Inv-loop μ-loop
-shared-slice-read-if2-2 c = omega arith
+shared-slice-read-and-length-2 : tie.Need-shared-slice-read-and-length-2 Inv-loop μ-loop
+shared-slice-read-and-length-2 c = omega arith
 
-returns-2 : tie.Need-returns-2 Inv-loop μ-loop
-returns-2 c =
-    let i = c .before .before .before .before in
-    let a = i .before .before .args in
-    same-no (a .a .now) (a .b .now) (i .loop .i) (omega arith) (omega arith) (i .loop .inv .1) (c .if2 .taken)
+and-length-requires : tie.Need-and-length-requires Inv-loop μ-loop
+and-length-requires c κs = search needs
 
 add-i : tie.Need-add-i Inv-loop μ-loop
 add-i c = omega arith
@@ -45,14 +44,14 @@ loop-less c = omega arith
 loop-again : tie.Need-loop-again Inv-loop μ-loop
 loop-again c =
     let i = c .before .before .before .before in
-    let a = i .before .before .args in
-    (omega arith, same-yes (a .a .now) (a .b .now) (i .loop .i) (omega arith) (omega arith) (i .loop .inv .1) (c .if2 .left))
+    let a = i .before .before .before .before .args in
+    (omega arith, same-turn (a .a .now) (a .b .now) (i .loop .i) _ _ (omega arith) (omega arith) (i .loop .inv .1) (c .and-length .ensures))
 
-returns-3 : tie.Need-returns-3 Inv-loop μ-loop
-returns-3 c =
+returns-2 : tie.Need-returns-2 Inv-loop μ-loop
+returns-2 c =
     let i = c .before in
-    let a = i .before .before .args in
-    same-done (a .a .now) (a .b .now) (i .loop .i) (omega arith) (omega arith) (i .loop .inv .1)
+    let a = i .before .before .before .before .args in
+    same-end (a .a .now) (a .b .now) (i .loop .i) _ (omega arith) (omega arith) (i .loop .inv .1)
 
 pub same-lengths-spec : {M : Type 1} → statement M
 same-lengths-spec =
@@ -62,12 +61,12 @@ same-lengths-spec =
     μ-loop
     returns
     loop-holds
-    mul-if2
-    shared-slice-read-if2
-    mul-if2-2
-    shared-slice-read-if2-2
-    returns-2
+    mul-and-length
+    shared-slice-read-and-length
+    mul-and-length-2
+    shared-slice-read-and-length-2
+    and-length-requires
     add-i
     loop-less
     loop-again
-    returns-3)
+    returns-2)

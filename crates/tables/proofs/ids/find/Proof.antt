@@ -8,10 +8,10 @@ use Rattle.tables.proofs.ids.find.Statement.{statement}
 use Rattle.tables.proofs.ids.find.Tie as tie
 
 abbrev Inv-loop : tie.InvT-loop
-Inv-loop ids id i₀ i = (i ≤ length ids) × (placeOf id ids ≡ i + placeOf id (drop i ids))
+Inv-loop ids id at₀ at = (at ≤ length ids) × (placeOf id ids ≡ at + placeOf id (drop at ids))
 
 abbrev μ-loop : tie.MeasureT-loop
-μ-loop ids id i₀ i = length ids - i
+μ-loop ids id at₀ at = length ids - at
 
 loop-holds : tie.Need-loop-holds Inv-loop μ-loop
 loop-holds c = (search needs, place-start _ _ 0)
@@ -25,8 +25,8 @@ shared-slice-read-if1 c = search needs
 returns : tie.Need-returns Inv-loop μ-loop
 returns c = let i = c .before .before in place-hit _ _ _ (i .loop-test .taken) (c .if1 .taken) (i .before .loop .inv .1)
 
-add-i : tie.Need-add-i Inv-loop μ-loop
-add-i c = search needs
+add-at : tie.Need-add-at Inv-loop μ-loop
+add-at c = search needs
 
 loop-less : tie.Need-loop-less Inv-loop μ-loop
 loop-less c = search needs
@@ -47,7 +47,7 @@ find-spec =
     mul-if1
     shared-slice-read-if1
     returns
-    add-i
+    add-at
     loop-less
     loop-again
     returns-2)

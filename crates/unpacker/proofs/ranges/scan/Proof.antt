@@ -1,10 +1,11 @@
-use Prim.Native.Nat.{_+_, _-_}
+use Prim.Native.Nat.{_+_, _*_, _-_}
 use borrow.Author.Needs.{needs}
 use denote.Ref.{now}
 use lib.ListN.{length, drop}
-use mathlib.Core.Path.{sym, _∙_}
+use mathlib.Core.Path.{_≡_, sym, _∙_}
 use native.Mathlib.Omega.{arith}
-use Rattle.unpacker.specs.Front.{InFront, Fronted, front-facts}
+use Rattle.reader.specs.Front.{frontOf, front-there, front-facts}
+use Rattle.reader.specs.declared.answer.Front.the-variants as front
 use Rattle.unpacker.specs.Walked.{Walked, walked-none, walked-all, walked-no, walked-next, front-rest}
 use Rattle.unpacker.proofs.ranges.scan.Statement.{statement}
 use Rattle.unpacker.proofs.ranges.scan.Tie as tie
@@ -37,23 +38,23 @@ enum-told : tie.Need-enum-told Inv-loop μ-loop
 enum-told c = search needs
 
 returns : tie.Need-returns Inv-loop μ-loop
-returns c = walked-no _ _ _ _ (c .before .before .before .before .before .loop .inv) (c .before .before .before .before .loop-test .taken) (sym (c .enum-told .given .1) ∙ c .before .before .range-in-front .ensures ∙ front-rest (now (c .before .before .before .before .before .before .before .args .s)) (c .before .before .before .before .before .loop .at))
+returns c =
+    let l = c .before .before .before .before .before in
+    walked-no _ _ _ _ (l .loop .inv) (c .before .before .before .before .loop-test .taken) (sym (c .enum-told .given .1) ∙ c .before .before .range-in-front .ensures ∙ front-rest (now (l .before .before .args .s)) (l .loop .at))
 
-abbrev here : tie.After-known-told Inv-loop μ-loop → tie.In-loop Inv-loop μ-loop
-here c = c .before .before .before .before .before
+abbrev here : tie.After-known-told Inv-loop μ-loop → tie.At-loop Inv-loop μ-loop
+here c = c .before .before .before .before .before .before
 
-facts : (c : tie.After-known-told Inv-loop μ-loop)
-    → InFront (drop (here c .before .loop .at) (now (here c .before .before .before .args .s)))
-    × Fronted (drop (here c .before .loop .at) (now (here c .before .before .before .args .s))) (c .before .f .given .0 .0) (c .before .f .given .0 .1 .0) (c .before .f .given .0 .1 .1 .0)
-facts c =
-    front-facts _ _ _ _
-    (sym (c .before .f .given .1)
+stands : (c : tie.After-known-told Inv-loop μ-loop) → front.Range (c .before .f .given .0 .0) ≡ frontOf (drop (here c .loop .at) (now (here c .before .before .args .s)))
+stands c =
+    sym (c .before .f .given .1)
     ∙ c .before .before .before .range-in-front .ensures
-    ∙ front-rest (now (here c .before .before .before .args .s)) (here c .before .loop .at))
+    ∙ front-rest (now (here c .before .before .args .s)) (here c .loop .at)
 
 next : (c : tie.After-known-told Inv-loop μ-loop)
-    → Walked (now (here c .before .before .before .args .s)) (here c .before .loop .at + c .before .f .given .0 .0) (here c .before .loop .count + c .before .f .given .0 .1 .0) (here c .before .loop .total + c .before .f .given .0 .1 .1 .0)
-next c = walked-next _ _ _ _ (here c .before .loop .inv) (here c .loop-test .taken) (facts c .0) _ _ _ (facts c .1)
+    → Walked (now (here c .before .before .args .s)) (here c .loop .at + c .before .f .given .0 .0 .blocks * 4096) (here c .loop .count + c .before .f .given .0 .0 .entries) (here c .loop .total + c .before .f .given .0 .0 .bytes)
+next c =
+    walked-next _ _ _ _ (here c .loop .inv) (c .before .before .before .before .before .loop-test .taken) (front-there _ _ (stands c)) _ _ _ (front-facts _ _ (stands c))
 
 add-count : tie.Need-add-count Inv-loop μ-loop
 add-count c = let w = next c in omega arith
@@ -61,14 +62,17 @@ add-count c = let w = next c in omega arith
 add-total : tie.Need-add-total Inv-loop μ-loop
 add-total c = let w = next c in omega arith
 
+mul-at : tie.Need-mul-at Inv-loop μ-loop
+mul-at c = let w = next (c .before) in omega arith
+
 add-at : tie.Need-add-at Inv-loop μ-loop
-add-at c = let w = next c in omega arith
+add-at c = let w = next (c .before) in omega arith
 
 loop-less : tie.Need-loop-less Inv-loop μ-loop
-loop-less c = let w = next c in let f = facts c .1 in omega arith
+loop-less c = let w = next (c .before) in let f = front-facts _ _ (stands (c .before)) in omega arith
 
 loop-again : tie.Need-loop-again Inv-loop μ-loop
-loop-again c = next c
+loop-again c = next (c .before)
 
 returns-2 : tie.Need-returns-2 Inv-loop μ-loop
 returns-2 c = walked-all _ _ _ _ (c .before .loop .inv) (c .loop-test .left)
@@ -89,6 +93,7 @@ scan-spec =
     returns
     add-count
     add-total
+    mul-at
     add-at
     loop-less
     loop-again

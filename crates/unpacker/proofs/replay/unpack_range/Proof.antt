@@ -4,7 +4,7 @@ use denote.Ref.{now}
 use mathlib.Core.Path.{_∙_, ap}
 use native.Mathlib.Omega.{arith}
 use Rattle.laws.specs.Splice.{clipped}
-use Rattle.unpacker.specs.Front.{Fronted, fronted, bodies-part, lens-part}
+use Rattle.reader.specs.Front.{Fronted, fronted, bodies-part, lens-part}
 use Rattle.unpacker.proofs.replay.unpack_range.Statement.{statement}
 use Rattle.unpacker.proofs.replay.unpack_range.Tie as tie
 

@@ -7,17 +7,17 @@ use Rattle.writer.proofs.ring.head_bytes.Tie as tie
 cast-t4 : tie.Need-cast-t4
 cast-t4 c = search needs
 
-cast-t6 : tie.Need-cast-t6
-cast-t6 c = search needs
+cast-t7 : tie.Need-cast-t7
+cast-t7 c = search needs
 
-cast-t8 : tie.Need-cast-t8
-cast-t8 c = search needs
+cast-t9 : tie.Need-cast-t9
+cast-t9 c = search needs
 
-cast-t10 : tie.Need-cast-t10
-cast-t10 c = search needs
+cast-t12 : tie.Need-cast-t12
+cast-t12 c = search needs
 
 returns : tie.Need-returns
-returns c = sym (head-is _ _ (c .pre .0) (c .pre .1))
+returns c = sym (head-is _ _)
 
 pub head-bytes-spec : {M : Type 1} → statement M
-head-bytes-spec = tie.close (tie.spec cast-t4 cast-t6 cast-t8 cast-t10 returns)
+head-bytes-spec = tie.close (tie.spec cast-t4 cast-t7 cast-t9 cast-t12 returns)

@@ -2,7 +2,7 @@ use Prim.Native.Nat.{_+_, _*_}
 use borrow.Author.Needs.{needs}
 use mathlib.Core.Path.{_≡_}
 use native.Mathlib.Omega.{arith}
-use Rattle.writer.specs.Ring.{put-law}
+use Rattle.writer.specs.Ring.{put-runs}
 use Rattle.writer.proofs.ring.put.Statement.{statement}
 use Rattle.writer.proofs.ring.put.Tie as tie
 
@@ -74,10 +74,10 @@ same-length c = search needs
 
 returns : tie.Need-returns
 returns c =
-    let st = c .before .before .before .before .before .before .before .before .before .before .before .before .before .before .before .before .before .before .before .before .before .before .before .before .before .before in
-    let a = st .args in
+    let s = c .before .before .before .before .before .before .before .before .before .before .before .before .before .before .before .before .before .before .before .before .before .before .before .before .before .before in
+    let a = s .args in
     let full : c .before .before .before .before .before .before .before .before .before .before .before .before .before .before .before .before .before .before .before .before .zeros-behind .result + (4 + a .n + a .bodies) ≡ a .blocks * 4096 = omega (arith, c .before .before .before .before .before .before .before .before .before .before .before .before .before .before .before .before .before .before .before .before .zeros-behind .ensures) in
-    put-law _ _ _ _ _ _ _ (st .pre) _ _ _ _ _ _ _ (c .before .before .before .before .before .before .before .before .before .before .before .before .before .before .before .before .before .before .before .before .before .before .head-bytes .ensures) full (c .before .before .before .before .before .before .before .before .before .before .before .before .before .before .before .before .before .before .before .before .before .wrapped .ensures)
+    put-runs _ _ _ _ _ _ _ (s .pre) _ _ _ _ _ _ _ (c .before .before .before .before .before .before .before .before .before .before .before .before .before .before .before .before .before .before .before .before .before .before .head-bytes .ensures) full (c .before .before .before .before .before .before .before .before .before .before .before .before .before .before .before .before .before .before .before .before .before .wrapped .ensures)
     (c .before .before .before .before .before .before .before .before .before .before .before .before .before .before .before .before .write-bytes-around .ensures) (c .before .before .before .before .before .before .before .before .before .before .before .narrow-around .ensures) (c .before .before .before .before .before .before .write-bytes-around2 .ensures) (c .before .before .fill-around .ensures)
 
 pub put-spec : {M : Type 1} → statement M

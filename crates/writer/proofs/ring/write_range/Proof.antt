@@ -3,8 +3,8 @@ use denote.Ref.{now}
 use mathlib.Core.Path.{sym, _∙_}
 use native.Mathlib.Omega.{arith}
 use Rattle.writer.specs.Answer.{written-yes, written-no}
-use Rattle.writer.specs.Entries.{size-ok, size-bodies, size-blocks, size-no}
-use Rattle.writer.specs.Ring.{write-journal, write-start, write-entries, write-full, write-yes, write-kept, write-done, ready}
+use Rattle.writer.specs.Entries.{size-fits, size-bodies, size-blocks, size-no}
+use Rattle.writer.specs.Ring.{write-journal, write-start, write-entries, write-full, write-yes, write-kept, write-put}
 use Rattle.writer.proofs.ring.write_range.Statement.{statement}
 use Rattle.writer.proofs.ring.write_range.Tie as tie
 
@@ -43,16 +43,11 @@ returns-4 : tie.Need-returns-4
 returns-4 c =
     let a = c .before .before .before .before .before .before .before .before .before .before .before .args in
     let s = sym (c .before .before .s .given .1) ∙ c .before .before .before .before .size-of-range .ensures in
-    let k = write-full (now (a .bytes)) (now (a .lens)) (a .n) (now (a .journal)) (a .start) _ (c .before .before .before .before .before .before .before .ask-journal .ensures) (c .before .before .before .before .before .before .if1 .left) (c .before .before .before .before .before .if2 .left) (size-ok _ _ _ _ _ s) _ (size-blocks _ _ _ _ _ s) (omega arith) in
+    let k = write-full (now (a .bytes)) (now (a .lens)) (a .n) (now (a .journal)) (a .start) _ (c .before .before .before .before .before .before .before .ask-journal .ensures) (c .before .before .before .before .before .before .if1 .left) (c .before .before .before .before .before .if2 .left) (size-fits _ _ _ _ _ s) _ (size-blocks _ _ _ _ _ s) (omega arith) in
     (written-no _ 8 _ k (omega arith), write-kept _ 8 _ _ k (omega arith))
 
-mul-put : tie.Need-mul-put
-mul-put c = search needs
-
-put-requires : tie.Need-put-requires
-put-requires c κs =
-    let s = sym (c .before .before .before .s .given .1) ∙ c .before .before .before .before .before .size-of-range .ensures in
-    ready _ _ _ _ _ _ _ (size-ok _ _ _ _ _ s) (size-bodies _ _ _ _ _ s) (size-blocks _ _ _ _ _ s) (c .before .before .before .before .before .before .if2 .left) (c .before .if3 .left)
+put-range-requires : tie.Need-put-range-requires
+put-range-requires c κs = search needs
 
 same-length : tie.Need-same-length
 same-length c = search needs
@@ -62,8 +57,8 @@ returns-5 c =
     let a = c .before .before .before .before .before .before .before .before .before .before .before .before .before .before .before .args in
     let s = sym (c .before .before .before .before .before .before .s .given .1) ∙ c .before .before .before .before .before .before .before .before .size-of-range .ensures in
     let b = size-blocks _ _ _ _ _ s in
-    let k = write-yes (now (a .bytes)) (now (a .lens)) (a .n) (now (a .journal)) (a .start) _ (c .before .before .before .before .before .before .before .before .before .before .before .ask-journal .ensures) (c .before .before .before .before .before .before .before .before .before .before .if1 .left) (c .before .before .before .before .before .before .before .before .before .if2 .left) (size-ok _ _ _ _ _ s) _ b (c .before .before .before .before .if3 .left) in
-    (written-yes _ _ _ k b, write-done _ _ _ _ k (c .before .before .put .ensures))
+    let k = write-yes (now (a .bytes)) (now (a .lens)) (a .n) (now (a .journal)) (a .start) _ (c .before .before .before .before .before .before .before .before .before .before .before .ask-journal .ensures) (c .before .before .before .before .before .before .before .before .before .before .if1 .left) (c .before .before .before .before .before .before .before .before .before .if2 .left) (size-fits _ _ _ _ _ s) _ b (omega arith) in
+    (written-yes _ _ _ k b, write-put _ _ _ _ _ _ _ k (size-bodies _ _ _ _ _ s) (c .before .before .put-range .ensures))
 
 pub write-range-spec : {M : Type 1} → statement M
 write-range-spec =
@@ -77,7 +72,6 @@ write-range-spec =
     enum-told
     returns-3
     returns-4
-    mul-put
-    put-requires
+    put-range-requires
     same-length
     returns-5)

@@ -5,6 +5,7 @@ use lib.ListN.{length}
 use mathlib.Core.Path.{_≡_}
 use native.Mathlib.Omega.{arith}
 use Rattle.tables.specs.Rows.{addedRow}
+use Rattle.tables.specs.IntervalTable.{addedInterval}
 use Rattle.tables.proofs.interval_table.IntervalTable.add.Statement.{statement}
 use Rattle.tables.proofs.interval_table.IntervalTable.add.Tie as tie
 
@@ -27,11 +28,11 @@ add-self : tie.Need-add-self
 add-self c = search needs
 
 returns : tie.Need-returns
-unfolding addedRow
+unfolding addedInterval addedRow
 returns c = let e = ids-long (c .before) in let h : c .before .args .t1 .count < length (c .before .args .t1 .ids) = omega arith in search tests
 
 returns-2 : tie.Need-returns-2
-unfolding addedRow
+unfolding addedInterval addedRow
 returns-2 c = let e = ids-long (c .before) in let h : length (c .before .args .t1 .ids) ≤ c .before .args .t1 .count = omega arith in search tests
 
 pub add-spec : {M : Type 1} → statement M

@@ -5,6 +5,7 @@ use borrow.Author.Needs.{needs}
 use lib.ListN.{length}
 use mathlib.Core.Path.{_≡_}
 use native.Mathlib.Omega.{arith}
+use Rattle.tables.specs.SyncTable.{removedSync}
 use Rattle.tables.proofs.sync_table.SyncTable.remove.Statement.{statement}
 use Rattle.tables.proofs.sync_table.SyncTable.remove.Tie as tie
 
@@ -33,15 +34,15 @@ element-write-self-2 : tie.Need-element-write-self-2
 element-write-self-2 c = search needs
 
 returns : tie.Need-returns
-unfolding removedRow inUse also
+unfolding removedSync removedRow inUse also
 returns c = let b = c .before .before .before .before in let e = ids-long b in let h : b .args .t1 .count ≤ length (b .args .t1 .ids) = omega arith in search tests
 
 returns-2 : tie.Need-returns-2
-unfolding removedRow inUse also
+unfolding removedSync removedRow inUse also
 returns-2 c = let b = c .before .before in let e = ids-long b in let h : b .args .t1 .count ≤ length (b .args .t1 .ids) = omega arith in search tests
 
 returns-3 : tie.Need-returns-3
-unfolding removedRow inUse also
+unfolding removedSync removedRow inUse also
 returns-3 c = let b = c .before in let e = ids-long b in let h : length (b .args .t1 .ids) < b .args .t1 .count = omega arith in search tests
 
 pub remove-spec : {M : Type 1} → statement M

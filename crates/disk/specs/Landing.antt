@@ -1,0 +1,31 @@
+-- The landing of a superblock write, after questions 1 and 2: 001's ProcessWriteSuperblock. `which`; a write in flight there.
+use Prim.Native.Nat.{ℕ}
+use mathlib.Core.Bool.{Bool, true, false}
+use Rattle.laws.specs.Choice.{ask, andThen}
+use Rattle.superblock.specs.declared.disk_op.MaybeSuperblock.{MaybeSuperblock}
+use Rattle.superblock.specs.declared.disk_op.MaybeSuperblock.the-variants as slot
+use Rattle.disk.specs.declared.slots.Slots.{Slots}
+use Rattle.disk.specs.declared.slots.SuperblockWrite.{SuperblockWrite}
+use Rattle.disk.specs.declared.slots.SuperblockWrite.the-variants as write
+use Rattle.disk.specs.declared.slots.SuperblockWrites.{SuperblockWrites}
+use Rattle.disk.specs.declared.disk.Disk.{Disk}
+use Rattle.disk.specs.Disk.{withSlots}
+use Rattle.disk.specs.Slots.{askWhich, slotAt, putSlot, writeAt}
+
+unfoldable pub inFlight : SuperblockWrite → Bool
+inFlight (write.Writing id s) = true
+inFlight write.NoWrite = false
+
+unfoldable pub askLand : SuperblockWrites → ℕ → ℕ
+askLand w which = andThen (askWhich which) (ask 6 (inFlight (writeAt w which)))
+
+-- the slot holds the write's superblock; the write stays
+unfoldable pub landingOn : MaybeSuperblock → SuperblockWrite → MaybeSuperblock
+landingOn x (write.Writing id s) = slot.Holds s
+landingOn x write.NoWrite = x
+
+unfoldable pub slotsLanded : Slots → SuperblockWrites → ℕ → Slots
+slotsLanded s w which = putSlot s which (landingOn (slotAt s which) (writeAt w which))
+
+unfoldable pub landNext : Disk → ℕ → Disk
+landNext d which = withSlots d (slotsLanded (d .slots) (d .superblockWrites) which)

@@ -1,0 +1,2 @@
+-- Laws of the disk's definitions: what a reader of them need not read, and what the crates above cite.
+pub mod Answers

@@ -1,0 +1,119 @@
+-- Laws of answers: how a call's answer and its lent memory follow from the numbers of its questions. The code's proofs cite them.
+use Prim.Native.Nat.{ℕ}
+use mathlib.Core.Bool.{Bool, true, false, cond}
+use mathlib.Core.Path.{_≡_, refl, sym, _∙_, ap}
+use mathlib.Core.List.{List}
+use mathlib.Core.Logic.{⊎-elim}
+use lib.Dec.{eqb}
+use Rattle.laws.specs.Choice.{andThen, andThen-first, andThen-done, unless, unless-kept, unless-done, refused-said, asked-yes, asked-either, ruin}
+use Rattle.interval.specs.declared.interval.JournalInterval.{JournalInterval}
+use Rattle.superblock.specs.declared.disk_op.SuperblockRead.{SuperblockRead}
+use Rattle.superblock.specs.declared.disk_op.JournalRead.{JournalRead}
+use Rattle.tables.specs.declared.interval_table.IntervalTable.{IntervalTable}
+use Rattle.disk.specs.declared.disk.Disk.{Disk}
+use Rattle.disk.specs.declared.disk.DiskStepped.{DiskStepped}
+use Rattle.disk.specs.declared.disk.DiskAnswer.the-variants as answer
+use Rattle.disk.specs.declared.disk.SuperblockAcked.{SuperblockAcked}
+use Rattle.disk.specs.declared.disk.SuperblockAnswer.the-variants as superblockAnswer
+use Rattle.disk.specs.declared.disk.JournalAcked.{JournalAcked}
+use Rattle.disk.specs.declared.disk.JournalAnswer.the-variants as journalAnswer
+use Rattle.disk.specs.Disk.{refused, answered}
+use Rattle.disk.specs.Acknowledge.{superblockRefused, superblockAnswered, heldInterval, askAckReadJournal, journalRefused, journalAnswered}
+use Rattle.disk.specs.Memory.{readOut}
+use Rattle.disk.specs.Operation.{isWhole, asStepped}
+
+-- one question: a no, and a yes
+module _ (k q : ℕ) (e : k ≡ q) where
+  pub answered-no : (next d : Disk) → (k ≡ 0 → ⊥) → refused d k ≡ answered q next d
+  unfolding answered
+  answered-no next d h = refused-said k q (record { answer = answer.Done; disk = next }) (refused d) e h
+
+  pub answered-yes : (x next d : Disk) → k ≡ 0 → x ≡ next → record { answer = answer.Done; disk = x } ≡ answered q next d
+  unfolding answered
+  answered-yes x next d h p =
+      (λ i. record { answer = answer.Done; disk = p i })
+      ∙ sym (asked-yes q (record { answer = answer.Done; disk = next }) (refused d q) (sym e ∙ h))
+
+  pub changed : (x old new : List ℕ) → k ≡ 0 → x ≡ new → x ≡ unless q old new
+  changed x old new h p = p ∙ sym (unless-done q old new (sym e ∙ h))
+
+-- two questions in a row: a no to the first, and a yes
+module _ (k q r : ℕ) (e : k ≡ q) where
+  first-is : (k ≡ 0 → ⊥) → k ≡ andThen q r
+  first-is h = e ∙ sym (andThen-first q r (λ z. h (e ∙ z)))
+
+  next-is : k ≡ 0 → r ≡ andThen q r
+  next-is h = sym (andThen-done q r (sym e ∙ h))
+
+  pub refused-first : (next d : Disk) → (k ≡ 0 → ⊥) → refused d k ≡ answered (andThen q r) next d
+  refused-first next d h = answered-no k (andThen q r) (first-is h) next d h
+
+  pub answered-next : (next d : Disk) (x : DiskStepped) → k ≡ 0 → x ≡ answered r next d → x ≡ answered (andThen q r) next d
+  answered-next next d x h p = p ∙ ap (λ (n : ℕ). answered n next d) (next-is h)
+
+  pub superblock-first : (v : SuperblockRead) (next d : Disk) → (k ≡ 0 → ⊥) → superblockRefused d k ≡ superblockAnswered (andThen q r) v next d
+  unfolding superblockAnswered
+  superblock-first v next d h =
+      refused-said k (andThen q r) (record { answer = superblockAnswer.Read v; disk = next }) (superblockRefused d) (first-is h) h
+
+  pub superblock-next : (v : SuperblockRead) (next d : Disk) (x : SuperblockAcked) → k ≡ 0 → x ≡ superblockAnswered r v next d → x ≡ superblockAnswered (andThen q r) v next d
+  superblock-next v next d x h p = p ∙ ap (λ (n : ℕ). superblockAnswered n v next d) (next-is h)
+
+  pub journal-first : (v : JournalInterval) (next d : Disk) → (k ≡ 0 → ⊥) → journalRefused d k ≡ journalAnswered (andThen q r) v next d
+  unfolding journalAnswered
+  journal-first v next d h =
+      refused-said k (andThen q r) (record { answer = journalAnswer.Read v; disk = next }) (journalRefused d) (first-is h) h
+
+  pub journal-next : (v : JournalInterval) (next d : Disk) (x : JournalAcked) → k ≡ 0 → x ≡ journalAnswered r v next d → x ≡ journalAnswered (andThen q r) v next d
+  journal-next v next d x h p = p ∙ ap (λ (n : ℕ). journalAnswered n v next d) (next-is h)
+
+  -- lent memory
+  pub kept-first : (old new : List ℕ) → (k ≡ 0 → ⊥) → old ≡ unless (andThen q r) old new
+  kept-first old new h = sym (unless-kept (andThen q r) old new (λ z. h (first-is h ∙ z)))
+
+  pub kept-next : (x old new : List ℕ) → k ≡ 0 → x ≡ unless r old new → x ≡ unless (andThen q r) old new
+  kept-next x old new h p = p ∙ ap (λ (n : ℕ). unless n old new) (next-is h)
+
+-- the answer of a journal read tells the number: refused, and read, with the interval
+module _ (q : ℕ) (v : JournalInterval) (next d : Disk) (r : JournalAcked) (e : r ≡ journalAnswered q v next d) where
+  pub journal-refused : (n : ℕ) → r .answer ≡ journalAnswer.Refused n → q ≡ 0 → ⊥
+  unfolding journalAnswered
+  journal-refused n h z =
+      let p : r ≡ record { answer = journalAnswer.Read v; disk = next } = e ∙ asked-yes q (record { answer = journalAnswer.Read v; disk = next }) (journalRefused d q) z in
+      ruin (cc)
+
+  pub journal-read : (u : JournalInterval) → r .answer ≡ journalAnswer.Read u → (q ≡ 0) × (u ≡ v)
+  unfolding journalAnswered
+  journal-read u h =
+      ⊎-elim
+      (λ y. let p = y .1 in (y .0, cc))
+      (λ n. let p = n .1 in ruin (cc))
+      (asked-either q (record { answer = journalAnswer.Read v; disk = next }) (journalRefused d q) r (sym e))
+
+  pub copied : (u : JournalInterval) (whole : Bool) (x blocks out : List ℕ) → r .answer ≡ journalAnswer.Read u → x ≡ readOut whole u blocks out
+      → x ≡ unless q out (readOut whole v blocks out)
+  copied u whole x blocks out h p =
+      let k = journal-read u h in
+      p ∙ ap (λ (w : JournalInterval). readOut whole w blocks out) (k .1) ∙ sym (unless-done q out (readOut whole v blocks out) (k .0))
+
+-- the same as an operation's
+stepped-as : (q : ℕ) (v : JournalInterval) (next d : Disk) → asStepped (journalAnswered q v next d) ≡ answered q next d
+unfolding journalAnswered answered
+stepped-as q v next d = go (eqb q 0)
+  where
+    go : (b : Bool) → asStepped (cond b (record { answer = journalAnswer.Read v; disk = next }) (journalRefused d q)) ≡ cond b (record { answer = answer.Done; disk = next }) (refused d q)
+    go true = refl
+    go false = refl
+
+module _ (t : IntervalTable) (id : ℕ) (marks : List ℕ) (w : Bool) (read : JournalRead) (e : w ≡ isWhole read) where
+  pub read-answered : (next d : Disk) (r : JournalAcked) (s : DiskStepped) → r ≡ journalAnswered (askAckReadJournal t id w marks) (heldInterval t id) next d → s ≡ asStepped r
+      → s ≡ answered (askAckReadJournal t id (isWhole read) marks) next d
+  read-answered next d r s p h =
+      h
+      ∙ ap asStepped p
+      ∙ stepped-as (askAckReadJournal t id w marks) (heldInterval t id) next d
+      ∙ ap (λ (b : Bool). answered (askAckReadJournal t id b marks) next d) e
+
+  pub read-copied : (x blocks out : List ℕ) → x ≡ unless (askAckReadJournal t id w marks) out (readOut w (heldInterval t id) blocks out)
+      → x ≡ unless (askAckReadJournal t id (isWhole read) marks) out (readOut (isWhole read) (heldInterval t id) blocks out)
+  read-copied x blocks out p = p ∙ ap (λ (b : Bool). unless (askAckReadJournal t id b marks) out (readOut b (heldInterval t id) blocks out)) e

@@ -1,0 +1,10 @@
+pub mod Slots
+pub mod Disk
+pub mod Questions
+pub mod Receive
+pub mod Acknowledge
+pub mod Landing
+pub mod Memory
+pub mod Operation
+pub mod Whole
+pub mod Laws

@@ -1,0 +1,35 @@
+// The disk (source 001, but for the crash): two superblock slots and the requests that wait; N blocks and N marks are lent beside it. The
+// public face:
+//   Disk                                           the record, and its limits; `idle`, one without requests
+//   ok, ask_state, ask, ask_with_buffer            question 2, and questions 1 and 2
+//   recv_read_superblock, recv_read_journal        a request is received: a read,
+//   recv_write_superblock, recv_write_journal      or a write
+//   ack_read_superblock, ack_read_journal          a request is answered: a read, whole or damaged,
+//   ack_write_superblock, ack_write_journal        or a write
+//   land                                           a superblock write in flight lands
+//   step                                           one step over the whole disk operation type
+//   DiskStepped, SuperblockAcked, JournalAcked     what they answer: the next disk, or the number of a no and the disk as it was
+// Each of these operations asks every question. One named `.._asked` is a part of an operation for a step that has asked questions 1 and 2
+// itself: it asks the others, decides by value and on shared slices, and leaves lent memory to journal's `write_blocks`, `set_marks` and
+// `copy_blocks`. Every function is total.
+mod acknowledge;
+mod disk;
+mod landing;
+mod memory;
+mod operation;
+mod questions;
+mod receive;
+mod slots;
+mod whole;
+
+pub use disk::Disk;
+pub use disk::DiskAnswer;
+pub use disk::DiskStepped;
+pub use disk::JournalAcked;
+pub use disk::JournalAnswer;
+pub use disk::SuperblockAcked;
+pub use disk::SuperblockAnswer;
+pub use slots::Slots;
+pub use slots::SuperblockReads;
+pub use slots::SuperblockWrite;
+pub use slots::SuperblockWrites;

@@ -1,0 +1,92 @@
+-- Whole histories: lists of calls with their answers, from one disk that meets `Init`, each with a crash that is taken and a load behind it.
+-- A loaded machine is told by its ledger in every field; so two are equal exactly when their ledgers are, and each shows its own. Over any
+-- range format that meets its laws, and any limits.
+use Prim.Native.Nat.{ℕ}
+use mathlib.Core.Bool.{Bool, true}
+use mathlib.Core.Path.{_≡_, refl, sym, _∙_, ap, subst}
+use mathlib.Core.List.{List, _∷_}
+use Rattle.layout.specs.declared.geometry.Geometry.{Geometry}
+use Rattle.layout.specs.declared.location.Location.{Location}
+use Rattle.codec.specs.Codec.{Codec}
+use Rattle.source.specs.JournalCache as M
+use Rattle.source.specs.JournalCache.{selectedSecond}
+use Rattle.source.specs.JournalSystem as Y
+use Rattle.source.specs.JournalSystem.{SuperblockOfDisk}
+use Rattle.source.specs.Limits.{Limits}
+use Rattle.source.specs.Departures.{Event, Allowed}
+use Rattle.history.specs.Ledger.{Call, crash, Ledger, begin, books, tell, Shown, shown}
+use Rattle.history.specs.Statement.{Tied, tied-crash, Loaded, ledgerOf, shows, Tells, readyBy, slotBy}
+use Rattle.history.specs.Journal.Slots.{slot-parity}
+use Rattle.history.specs.Simulation.Relation.{Sim}
+use Rattle.history.specs.Simulation.Steps.{sim-step}
+use Rattle.history.specs.Whole.Reloaded.{Clean}
+use Rattle.history.specs.Whole.Lists.{sim-run, kept-run, books-loads, books-append}
+use Rattle.history.specs.Whole.First.{firstParity, init-sim}
+
+-- a crash leaves the machine's `Init`
+crash-init : (g : Geometry) (C : Codec) (L : Limits) (s t : Y.Variables) (e : Event) → Tied crash e → Allowed g C L s t e → M.Init (t .machine)
+crash-init g C L s t e tied-crash a = a .step .machine
+
+module _ (g : Geometry) (C : Codec) (L : Limits) (first : Y.Variables) (loc : Location) (i : Y.Init g first loc) where
+  -- a loaded machine is the one that its ledger tells, in a slot of the first disk's parity
+  loaded-clean : (calls : List Call) (answers : List Bool) (loading : List Call) (loaded : List Bool) (r : M.ReadyVariables) → Loaded g C L first calls answers loading loaded r
+      → Clean (firstParity g C first loc i) (M.Variables.Ready r) (shown C (ledgerOf g C first loc i calls answers loading loaded))
+  unfolding books tell
+  loaded-clean calls answers loading loaded r h =
+      subst (λ (l : Ledger). Clean p (M.Variables.Ready r) (shown C l)) (sym books-are)
+      (subst (λ (m : M.Variables). Clean p m (shown C l₂)) (h .ready)
+      (kept-run g C L p (h .after) (h .end) l₂ loading loaded (record { sim = after-crash; clean = fresh-clean }) (h .only-loads) (h .load) .clean))
+    where
+      p : ℕ
+      p = firstParity g C first loc i
+
+      l₀ : Ledger
+      l₀ = begin (SuperblockOfDisk g (first .disk) (i .wf))
+
+      l₁ : Ledger
+      l₁ = books g C l₀ calls answers
+
+      l₂ : Ledger
+      l₂ = tell g C crash l₁
+
+      after-crash : Sim g C p (h .after .machine) (h .after .disk) l₂
+      after-crash = sim-step g C L p (h .before) (h .after) l₁ (sim-run g C L p first (h .before) l₀ calls answers (init-sim g C first loc i) (h .ran)) crash (h .crashed)
+
+      fresh-clean : Clean p (h .after .machine) (shown C l₂)
+      fresh-clean = subst (λ (m : M.Variables). Clean p m (shown C l₂)) (sym (crash-init g C L (h .before) (h .after) (h .crashed .event) (h .crashed .tied) (h .crashed .allowed))) refl
+
+      books-are : ledgerOf g C first loc i calls answers loading loaded ≡ l₂
+      books-are = books-append g C L l₀ first (h .before) calls answers (crash ∷ loading) (true ∷ loaded) (h .ran) ∙ books-loads g C L l₂ loading loaded (h .only-loads)
+
+  -- so every field of it is the ledger's
+  pub loaded-tells : (calls : List Call) (answers : List Bool) (loading : List Call) (loaded : List Bool) (r : M.ReadyVariables) → Loaded g C L first calls answers loading loaded r
+      → let v = shown C (ledgerOf g C first loc i calls answers loading loaded) in r ≡ readyBy v (slotBy g first loc i (v .counter))
+  loaded-tells calls answers loading loaded r h =
+      let c = loaded-clean calls answers loading loaded r h in
+      c .2 ∙ ap (readyBy v) (slot-parity (v .counter) (SuperblockOfDisk g (first .disk) (i .wf) .counter) (c .0) (selectedSecond (i .wf .first .value) (i .wf .second .value)) (c .1))
+    where
+      v : Shown
+      v = shown C (ledgerOf g C first loc i calls answers loading loaded)
+
+  pub whole-history : (calls : List Call) (answers : List Bool) (loading : List Call) (loaded : List Bool) (r : M.ReadyVariables)
+      (calls′ : List Call) (answers′ : List Bool) (loading′ : List Call) (loaded′ : List Bool) (q : M.ReadyVariables)
+      → Loaded g C L first calls answers loading loaded r → Loaded g C L first calls′ answers′ loading′ loaded′ q
+      → Tells r q (shown C (ledgerOf g C first loc i calls answers loading loaded)) (shown C (ledgerOf g C first loc i calls′ answers′ loading′ loaded′))
+  whole-history calls answers loading loaded r calls′ answers′ loading′ loaded′ q h k =
+      record {
+        equal = (λ e. sym (ap shows r-is) ∙ ap shows e ∙ ap shows q-is, λ e. r-is ∙ (λ n. readyBy (e n) (slotBy g first loc i (e n .counter))) ∙ sym q-is);
+        first-shows = ap shows r-is;
+        second-shows = ap shows q-is;
+      }
+    where
+      v : Shown
+      v = shown C (ledgerOf g C first loc i calls answers loading loaded)
+
+      u : Shown
+      u = shown C (ledgerOf g C first loc i calls′ answers′ loading′ loaded′)
+
+      r-is : r ≡ readyBy v (slotBy g first loc i (v .counter))
+      r-is = loaded-tells calls answers loading loaded r h
+
+      q-is : q ≡ readyBy u (slotBy g first loc i (u .counter))
+      q-is = loaded-tells calls′ answers′ loading′ loaded′ q k
