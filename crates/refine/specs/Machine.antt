@@ -6,3 +6,13 @@ pub mod LoadingSuperblock
 pub mod LoadingOther
 pub mod LoadingAnswer
 pub mod LoadingFinish
+pub mod ReadyView
+pub mod ReadyCases
+pub mod ReadyForm
+pub mod ReadyMeets
+pub mod ReadyFreeze
+pub mod ReadyCommit
+pub mod ReadyAdvance
+pub mod ReadyReplay
+pub mod ReadyLoaded
+pub mod ReadyJournal
