@@ -6,3 +6,4 @@ pub mod Receive
 pub mod Acknowledge
 pub mod Landing
 pub mod Memory
+pub mod Operation

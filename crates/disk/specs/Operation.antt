@@ -32,7 +32,7 @@ doneOr (journalAnswer.Refused q) = answer.Refused q
 abbrev pub asStepped : JournalAcked → DiskStepped
 asStepped r = record { answer = doneOr (r .answer); disk = r .disk }
 
-unfoldable pub askOperation : Geometry → Disk → DiskOp → List ℕ → List ℕ → ℕ
+abbrev pub askOperation : Geometry → Disk → DiskOp → List ℕ → List ℕ → ℕ
 askOperation g d (op.ReqReadSuperblock id which) new marks = askRecvReadSuperblock (d .superblockReads) which id
 askOperation g d (op.ReqReadJournal id v) new marks = askRecvReadJournal g (d .journalReads) id v
 askOperation g d (op.ReqWriteSuperblock id which superblock) new marks = askRecvWriteSuperblock (d .superblockWrites) which id
@@ -43,7 +43,7 @@ askOperation g d (op.RespWriteSuperblock id which) new marks = askAckWriteSuperb
 askOperation g d (op.RespWriteJournal id) new marks = askAckWriteJournal (d .journalWrites) id
 askOperation g d op.NoDiskOp new marks = 0
 
-unfoldable pub operationNext : Geometry → Disk → DiskOp → Disk
+abbrev pub operationNext : Geometry → Disk → DiskOp → Disk
 operationNext g d (op.ReqReadSuperblock id which) = recvReadSuperblockNext d which id
 operationNext g d (op.ReqReadJournal id v) = recvReadJournalNext d id v
 operationNext g d (op.ReqWriteSuperblock id which superblock) = recvWriteSuperblockNext d which id superblock
@@ -55,7 +55,7 @@ operationNext g d (op.RespWriteJournal id) = ackWriteJournalNext d id
 operationNext g d op.NoDiskOp = d
 
 -- only a journal write changes blocks and marks, and only a journal read's answer the buffer
-unfoldable pub operationBlocks : DiskOp → List ℕ → List ℕ → List ℕ
+abbrev pub operationBlocks : DiskOp → List ℕ → List ℕ → List ℕ
 operationBlocks (op.ReqWriteJournal id1 id2 start count) new blocks = updateBytes blocks (interval start count) new
 operationBlocks (op.ReqReadSuperblock id which) new blocks = blocks
 operationBlocks (op.ReqReadJournal id v) new blocks = blocks
@@ -66,7 +66,7 @@ operationBlocks (op.RespWriteSuperblock id which) new blocks = blocks
 operationBlocks (op.RespWriteJournal id) new blocks = blocks
 operationBlocks op.NoDiskOp new blocks = blocks
 
-unfoldable pub operationMarks : DiskOp → List ℕ → List ℕ
+abbrev pub operationMarks : DiskOp → List ℕ → List ℕ
 operationMarks (op.ReqWriteJournal id1 id2 start count) marks = updateMarks marks (interval start count)
 operationMarks (op.ReqReadSuperblock id which) marks = marks
 operationMarks (op.ReqReadJournal id v) marks = marks
@@ -77,7 +77,7 @@ operationMarks (op.RespWriteSuperblock id which) marks = marks
 operationMarks (op.RespWriteJournal id) marks = marks
 operationMarks op.NoDiskOp marks = marks
 
-unfoldable pub operationOut : Disk → DiskOp → List ℕ → List ℕ → List ℕ
+abbrev pub operationOut : Disk → DiskOp → List ℕ → List ℕ → List ℕ
 operationOut d (op.RespReadJournal id journal) blocks out = readOut (isWhole journal) (heldInterval (d .journalReads) id) blocks out
 operationOut d (op.ReqReadSuperblock id which) blocks out = out
 operationOut d (op.ReqReadJournal id v) blocks out = out

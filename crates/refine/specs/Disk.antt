@@ -6,3 +6,4 @@ pub mod SuperblockReads
 pub mod JournalReads
 pub mod SuperblockWrites
 pub mod JournalWrites
+pub mod Step

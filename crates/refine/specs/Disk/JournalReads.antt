@@ -19,7 +19,6 @@ use Rattle.journal.specs.Blocks.{blocks-front}
 use Rattle.codec.specs.Codec.{JournalRange, Disk-HasJournalRange, Disk-JournalRange, concatFold}
 use Rattle.codec.specs.Ranges.{whole-read}
 use Rattle.tables.specs.declared.interval_table.IntervalTable.{IntervalTable}
-use Rattle.tables.specs.Rows.{askAdd}
 use Rattle.tables.specs.IntervalTable.{intervalRows, intervalMap, SizedIntervals}
 use Rattle.tables.specs.Laws.Counts.{add-asked}
 use Rattle.tables.specs.Laws.RowTables.{rows-addable, few-rows-add, rows-keys, rows-known}
@@ -27,6 +26,7 @@ use Rattle.tables.specs.Laws.IntervalTables.{level-intervals, intervals-added, 
 use Rattle.source.specs.JournalDisk as D
 use Rattle.source.specs.JournalDisk.{ReqReadJournalOp, RespReadJournalOp}
 use Rattle.source.specs.Limits.{limits}
+use Rattle.source.specs.Meets.{DiskMeets}
 use Rattle.source.specs.Within.{Operation, DiskAllowed, DiskWithin}
 use Rattle.disk.specs.declared.disk.Disk.{Disk}
 use Rattle.disk.specs.declared.disk.DiskAnswer.the-variants as answer
@@ -55,31 +55,39 @@ module _ (g : Geometry) (d : Disk) (id : ℕ) (v : JournalInterval) (blocks mark
       ap (diskOf g blocks marks) (recv-read-journal-next d id v)
       ∙ (λ i. D.to-reqReadJournals (intervals-added (d .journalReads) l id v h n i) (diskOf g blocks marks d))
 
+  -- the source's clauses, of a yes, and back
+  pub recv-read-clauses : (z : SizedDisk d) → askRecvReadJournal g (d .journalReads) id v ≡ 0
+      → D.RecvReadJournal g (diskOf g blocks marks d) (diskOf g blocks marks (recvReadJournalNext d id v)) id v
+  recv-read-clauses z e =
+      let a = recv-read-journal-asked g (d .journalReads) id v e in
+      let f = add-asked 8 (d .journalReads .count) (d .journalReads .ids) id (a .add) in
+      let n = rows-addable (intervalRows (d .journalReads)) 8 id f in
+      record { new = n; contiguous = contiguous-facts g v (a .contiguous); next = received (z .journal-reads) (f .free) n }
+
+  pub clauses-recv-read : SizedDisk d → DiskTables d → (s′ : D.Variables) → D.RecvReadJournal g (diskOf g blocks marks d) s′ id v → AtMost 8 (keys (s′ .reqReadJournals))
+      → askRecvReadJournal g (d .journalReads) id v ≡ 0
+  clauses-recv-read z t s′ a w =
+      let r : IntervalTable = d .journalReads in
+      let size = z .journal-reads .ids-long in
+      let few : AtMost 8 (keys (bind (intervalMap r) id v)) = subst (λ (x : D.Variables). AtMost 8 (keys (x .reqReadJournals))) (a .next) w in
+      asks-recv-read-journal g r id v
+      (record {
+        contiguous = facts-contiguous g v (a .contiguous);
+        add =
+            few-rows-add (intervalRows r) (level-intervals r (z .journal-reads)) (r .count) (counted-own (r .count) (r .ids) (t .journal-reads)) 8 id v (omega arith) (a .new) few;
+      })
+
   pub recvReadJournal-sound : SizedDisk d → recvReadJournal g d id v blocks marks .answer ≡ answer.Done
       → DiskAllowed g limits (diskOf g blocks marks d) (diskOf g blocks marks (recvReadJournal g d id v blocks marks .disk)) (Operation (ReqReadJournalOp id v))
   recvReadJournal-sound z e =
-      sound-by g blocks marks d z (askRecvReadJournal g (d .journalReads) id v) (recvReadJournalNext d id v) (Operation (ReqReadJournalOp id v)) e
-      (λ e0 m.
-      let a = recv-read-journal-asked g (d .journalReads) id v e0 in
-      let f = add-asked 8 (d .journalReads .count) (d .journalReads .ids) id (a .add) in
-      let n = rows-addable (intervalRows (d .journalReads)) 8 id f in
-      record { new = n; contiguous = contiguous-facts g v (a .contiguous); next = received (z .journal-reads) (f .free) n })
+      sound-by g blocks marks d z (askRecvReadJournal g (d .journalReads) id v) (recvReadJournalNext d id v) (Operation (ReqReadJournalOp id v)) e (λ e0 m. recv-read-clauses z e0)
 
   pub recvReadJournal-complete : SizedDisk d → DiskTables d → Lent g blocks marks → (s′ : D.Variables) → DiskAllowed g limits (diskOf g blocks marks d) s′ (Operation (ReqReadJournalOp id v))
       → DiskWithin g limits s′ (Operation (ReqReadJournalOp id v))
       → (recvReadJournal g d id v blocks marks .answer ≡ answer.Done) × (diskOf g blocks marks (recvReadJournal g d id v blocks marks .disk) ≡ s′)
   recvReadJournal-complete z t l s′ a w =
-      let r : IntervalTable = d .journalReads in
-      let size = z .journal-reads .ids-long in
-      let few : AtMost 8 (keys (bind (intervalMap r) id v)) =
-      subst (λ (x : D.Variables). AtMost 8 (keys (x .reqReadJournals))) (a .step .next) (w .counts .journal-reads-few)
-      in
-      let e0 : askAdd 8 (r .count) (r .ids) id ≡ 0 =
-      few-rows-add (intervalRows r) (level-intervals r (z .journal-reads)) (r .count) (counted-own (r .count) (r .ids) (t .journal-reads)) 8 id v (omega arith) (a .step .new) few
-      in
-      complete-by g blocks marks d z (askRecvReadJournal g r id v) (recvReadJournalNext d id v) s′ t l (a .meets)
-      (asks-recv-read-journal g r id v (record { contiguous = facts-contiguous g v (a .step .contiguous); add = e0 }))
-      (received (z .journal-reads) (add-asked 8 (r .count) (r .ids) id e0 .free) (a .step .new) ∙ sym (a .step .next))
+      let e = clauses-recv-read z t s′ (a .step) (w .counts .journal-reads-few) in
+      complete-by g blocks marks d z (askRecvReadJournal g (d .journalReads) id v) (recvReadJournalNext d id v) s′ t l (a .meets) e (recv-read-clauses z e .next ∙ sym (a .step .next))
 
   pub recvReadJournal-refused : (n : ℕ) → recvReadJournal g d id v blocks marks .answer ≡ answer.Refused n → recvReadJournal g d id v blocks marks .disk ≡ d
   recvReadJournal-refused n e = refused-same (andThen (askDisk g d blocks marks) (askRecvReadJournal g (d .journalReads) id v)) (recvReadJournalNext d id v) d n e
@@ -176,44 +184,55 @@ module _ (g : Geometry) (d : Disk) (id : ℕ) (blocks marks out : List ℕ) wher
             (λ i. (diskOf g blocks marks (sym done i .disk), blocksRead whole (sym (k .1) i) (sym left i))) c;
       }
 
+  -- and back: the questions of an answer that the source allows, and the buffer's front after it
+  module _ (z : SizedDisk d) (l : Lent g blocks marks) (m : DiskMeets g limits (diskOf g blocks marks d)) (journal : Option JournalRange) (s′ : D.Variables)
+      (a : D.AckReadJournal g (diskOf g blocks marks d) s′ id journal) where
+    is-held : heldInterval (d .journalReads) id ≡ a .ind
+    is-held = held-is (d .journalReads) id (a .ind) (a .waiting)
+
+    contiguous : ContiguousJournalInterval g (a .ind)
+    contiguous = m .shape .reads-contiguous id (a .ind) (a .waiting)
+
+    pub clauses-read : askAckReadJournal (d .journalReads) id (isKey journal) marks ≡ 0
+    clauses-read =
+        asks-ack-read-journal (d .journalReads) id (isKey journal) marks
+        (rows-known (intervalRows (d .journalReads)) (level-intervals (d .journalReads) (z .journal-reads)) id (a .ind) (a .waiting))
+        (λ w. ap (fullMarks marks) is-held ∙ full journal w (a .readable))
+      where
+        full : (j : Option JournalRange) → isKey j ≡ true → ((jr : JournalRange) → j ≡ some jr → Disk-HasJournalRange g (cells g blocks marks) (a .ind)) → fullMarks marks (a .ind) ≡ true
+        full none w y = false-true w
+        full (some jr) w y = there-range g blocks marks l (a .ind) contiguous (y jr refl)
+
+    pub content-read : length out ≡ g .blocks * 4096
+        → blocksRead (isKey journal) (heldInterval (d .journalReads) id) (readOut (isKey journal) (heldInterval (d .journalReads) id) blocks out) ≡ journal
+    content-read h =
+        (λ i. blocksRead (isKey journal) (is-held i) (readOut (isKey journal) (is-held i) blocks out)) ∙ content journal (a .readable) (a .whole)
+      where
+        content : (j : Option JournalRange) → ((jr : JournalRange) → j ≡ some jr → Disk-HasJournalRange g (cells g blocks marks) (a .ind))
+            → ((jr : JournalRange) → j ≡ some jr → jr ≡ Disk-JournalRange g (cells g blocks marks) (a .ind)) → blocksRead (isKey j) (a .ind) (readOut (isKey j) (a .ind) blocks out) ≡ j
+        content none y x = refl
+        content (some jr) y x = ap some (range-read g blocks marks l (a .ind) contiguous out h (there-range g blocks marks l (a .ind) contiguous (y jr refl)) ∙ sym (x jr refl))
+
   pub ackReadJournal-complete : SizedDisk d → DiskTables d → Lent g blocks marks → length out ≡ g .blocks * 4096 → (journal : Option JournalRange) (s′ : D.Variables)
-      → (a : DiskAllowed g limits (diskOf g blocks marks d) s′ (Operation (RespReadJournalOp id journal)))
-      → (ackReadJournal g d id (isKey journal) blocks marks out .answer ≡ journalAnswer.Read (a .step .ind))
+      → DiskAllowed g limits (diskOf g blocks marks d) s′ (Operation (RespReadJournalOp id journal))
+      → (ackReadJournal g d id (isKey journal) blocks marks out .answer ≡ journalAnswer.Read (heldInterval (d .journalReads) id))
       × (diskOf g blocks marks (ackReadJournal g d id (isKey journal) blocks marks out .disk) ≡ s′)
-      × (blocksRead (isKey journal) (a .step .ind) (ackReadJournalOut g d id (isKey journal) blocks marks out) ≡ journal)
+      × (blocksRead (isKey journal) (heldInterval (d .journalReads) id) (ackReadJournalOut g d id (isKey journal) blocks marks out) ≡ journal)
   ackReadJournal-complete z t l h journal s′ a =
-      let r : IntervalTable = d .journalReads in
-      let u : heldInterval r id ≡ a .step .ind = held-is r id (a .step .ind) (a .step .waiting) in
-      let f = a .meets .shape .reads-contiguous id (a .step .ind) (a .step .waiting) in
-      let e : askAckReadJournal r id (isKey journal) marks ≡ 0 =
-      asks-ack-read-journal r id (isKey journal) marks (rows-known (intervalRows r) (level-intervals r (z .journal-reads)) id (a .step .ind) (a .step .waiting))
-      (λ w. ap (fullMarks marks) u ∙ full f journal w (a .step .readable))
-      in
+      let v : JournalInterval = heldInterval (d .journalReads) id in
       let b : askDiskOut g d blocks marks out ≡ 0 =
       asks-out g d blocks marks out (met-disk g blocks marks d z (record { lent = l; tables = t; meets = a .meets }))
       (asked-blocks g out (record { geometry = l .blocks-right .geometry; size = h }))
       in
       let q : ℕ = askReadJournal g d id (isKey journal) blocks marks out in
-      let e0 : q ≡ 0 = andThen-both (askDiskOut g d blocks marks out) (askAckReadJournal r id (isKey journal) marks) b e in
-      let done = asked-journal-read q (heldInterval r id) (ackReadJournalNext d id) d e0 in
-      let left = unless-done q out (readOut (isKey journal) (heldInterval r id) blocks out) e0 in (
-        ap (λ (x : JournalAcked). x .answer) done ∙ ap journalAnswer.Read u,
+      let e0 : q ≡ 0 =
+      andThen-both (askDiskOut g d blocks marks out) (askAckReadJournal (d .journalReads) id (isKey journal) marks) b (clauses-read z l (a .meets) journal s′ (a .step))
+      in
+      let done = asked-journal-read q v (ackReadJournalNext d id) d e0 in (
+        ap (λ (x : JournalAcked). x .answer) done,
         ap (λ (x : JournalAcked). diskOf g blocks marks (x .disk)) done ∙ journal-answered (z .journal-reads) t ∙ sym (a .step .next),
-        (λ i. blocksRead (isKey journal) (a .step .ind) (left i)) ∙ (λ i. blocksRead (isKey journal) (a .step .ind) (readOut (isKey journal) (u i) blocks out))
-            ∙ content f journal (a .step .readable) (a .step .whole),
+        ap (blocksRead (isKey journal) v) (unless-done q out (readOut (isKey journal) v blocks out) e0) ∙ content-read z l (a .meets) journal s′ (a .step) h,
       )
-    where
-      v : JournalInterval
-      v = a .step .ind
-
-      full : ContiguousJournalInterval g v → (j : Option JournalRange) → isKey j ≡ true → ((jr : JournalRange) → j ≡ some jr → Disk-HasJournalRange g (cells g blocks marks) v) → fullMarks marks v ≡ true
-      full f none w y = false-true w
-      full f (some jr) w y = there-range g blocks marks l v f (y jr refl)
-
-      content : ContiguousJournalInterval g v → (j : Option JournalRange) → ((jr : JournalRange) → j ≡ some jr → Disk-HasJournalRange g (cells g blocks marks) v)
-          → ((jr : JournalRange) → j ≡ some jr → jr ≡ Disk-JournalRange g (cells g blocks marks) v) → blocksRead (isKey j) v (readOut (isKey j) v blocks out) ≡ j
-      content f none y x = refl
-      content f (some jr) y x = ap some (range-read g blocks marks l v f out h (there-range g blocks marks l v f (y jr refl)) ∙ sym (x jr refl))
 
   pub ackReadJournal-refused : (whole : Bool) (n : ℕ) → ackReadJournal g d id whole blocks marks out .answer ≡ journalAnswer.Refused n
       → (ackReadJournal g d id whole blocks marks out .disk ≡ d) × (ackReadJournalOut g d id whole blocks marks out ≡ out)

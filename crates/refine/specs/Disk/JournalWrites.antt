@@ -284,20 +284,27 @@ module _ (g : Geometry) (d : Disk) (id : ℕ) (blocks marks : List ℕ) where
       ap (diskOf g blocks marks) (ack-write-journal-next d id)
       ∙ (λ i. D.to-reqWriteJournals (intervals-left r l (r .count) (counted-own (r .count) (r .ids) (t .journal-writes)) id i) (diskOf g blocks marks d))
 
+  -- the source's clauses, of a yes, and back
+  pub ack-write-clauses : SizedDisk d → DiskTables d → askAckWriteJournal (d .journalWrites) id ≡ 0
+      → D.AckWriteJournal (diskOf g blocks marks d) (diskOf g blocks marks (ackWriteJournalNext d id)) id
+  ack-write-clauses z t e =
+      let k = waiting-some (d .journalWrites) (z .journal-writes) id (ack-write-journal-waiting (d .journalWrites) id e) in
+      record { ind = k .0; waiting = k .1; next = write-answered (z .journal-writes) t }
+
+  pub clauses-ack-write : SizedDisk d → (s′ : D.Variables) → D.AckWriteJournal (diskOf g blocks marks d) s′ id → askAckWriteJournal (d .journalWrites) id ≡ 0
+  clauses-ack-write z s′ a =
+      asks-ack-write-journal (d .journalWrites) id
+      (rows-known (intervalRows (d .journalWrites)) (level-intervals (d .journalWrites) (z .journal-writes)) id (a .ind) (a .waiting))
+
   pub ackWriteJournal-sound : SizedDisk d → ackWriteJournal g d id blocks marks .answer ≡ answer.Done
       → DiskAllowed g limits (diskOf g blocks marks d) (diskOf g blocks marks (ackWriteJournal g d id blocks marks .disk)) (Operation (RespWriteJournalOp id))
   ackWriteJournal-sound z e =
-      sound-by g blocks marks d z (askAckWriteJournal (d .journalWrites) id) (ackWriteJournalNext d id) (Operation (RespWriteJournalOp id)) e
-      (λ e0 m.
-      let k = waiting-some (d .journalWrites) (z .journal-writes) id (ack-write-journal-waiting (d .journalWrites) id e0) in
-      record { ind = k .0; waiting = k .1; next = write-answered (z .journal-writes) (m .tables) })
+      sound-by g blocks marks d z (askAckWriteJournal (d .journalWrites) id) (ackWriteJournalNext d id) (Operation (RespWriteJournalOp id)) e (λ e0 m. ack-write-clauses z (m .tables) e0)
 
   pub ackWriteJournal-complete : SizedDisk d → DiskTables d → Lent g blocks marks → (s′ : D.Variables) → DiskAllowed g limits (diskOf g blocks marks d) s′ (Operation (RespWriteJournalOp id))
       → (ackWriteJournal g d id blocks marks .answer ≡ answer.Done) × (diskOf g blocks marks (ackWriteJournal g d id blocks marks .disk) ≡ s′)
   ackWriteJournal-complete z t l s′ a =
-      complete-by g blocks marks d z (askAckWriteJournal (d .journalWrites) id) (ackWriteJournalNext d id) s′ t l (a .meets)
-      (asks-ack-write-journal (d .journalWrites) id
-      (rows-known (intervalRows (d .journalWrites)) (level-intervals (d .journalWrites) (z .journal-writes)) id (a .step .ind) (a .step .waiting)))
+      complete-by g blocks marks d z (askAckWriteJournal (d .journalWrites) id) (ackWriteJournalNext d id) s′ t l (a .meets) (clauses-ack-write z s′ (a .step))
       (write-answered (z .journal-writes) t ∙ sym (a .step .next))
 
   pub ackWriteJournal-refused : (n : ℕ) → ackWriteJournal g d id blocks marks .answer ≡ answer.Refused n → ackWriteJournal g d id blocks marks .disk ≡ d

@@ -31,12 +31,12 @@ use Rattle.disk.specs.declared.disk.SuperblockAnswer.the-variants as superblock
 use Rattle.disk.specs.Slots.{slotAt, readsAt, putReads}
 use Rattle.disk.specs.Questions.{askDisk}
 use Rattle.disk.specs.Receive.{askRecvReadSuperblock, recvReadSuperblockNext}
-use Rattle.disk.specs.Acknowledge.{mayRead, readFrom, askAckReadSuperblock, ackReadSuperblockNext}
+use Rattle.disk.specs.Acknowledge.{mayRead, readFrom, askAckReadSuperblock, holdsRead, askReadSuperblockAs, ackReadSuperblockNext}
 use Rattle.disk.specs.Whole.{recvReadSuperblock, ackReadSuperblock}
 use Rattle.disk.specs.Laws.Answers.{refused-same, superblock-same}
 use Rattle.disk.specs.Laws.Pairs.{bitOf, slotPair, readPair, slot-at, reads-at, reads-put}
 use Rattle.disk.specs.Laws.Receive.{recv-read-superblock-asked, asks-recv-read-superblock, recv-read-superblock-next}
-use Rattle.disk.specs.Laws.Acknowledge.{ack-read-superblock-waiting, ack-read-superblock-may, asks-ack-read-superblock, whole-holds, holds-whole, may-damaged, read-whole, read-damaged, ack-read-superblock-next}
+use Rattle.disk.specs.Laws.Acknowledge.{ack-read-superblock-waiting, ack-read-superblock-may, asks-ack-read-superblock, read-superblock-as-waiting, read-superblock-as-holds, asks-read-superblock-as, whole-held, held-whole, held-damaged, whole-holds, holds-whole, may-damaged, read-whole, read-damaged, ack-read-superblock-next}
 use Rattle.refine.specs.Disk.View.{superblockIn, diskOf, SizedDisk, Table, DiskTables, Lent}
 use Rattle.refine.specs.Disk.Meets.{counted-own}
 use Rattle.refine.specs.Disk.Calls.{sound-by, complete-by, read-sound-by, read-complete-by}
@@ -82,41 +82,51 @@ module _ (g : Geometry) (d : Disk) (which id : ℕ) (blocks marks : List ℕ) wh
       ap (diskOf g blocks marks) (recv-read-superblock-next d which id)
       ∙ (λ i. D.to-reqReadSuperblocks (reads-placed r which (addedId (readsAt r which) id) (join set id) e i) (diskOf g blocks marks d))
 
+  -- the source's clauses, of a yes, and back
+  pub recv-read-clauses : (z : SizedDisk d) → askRecvReadSuperblock (d .superblockReads) which id ≡ 0
+      → D.RecvReadSuperblock (diskOf g blocks marks d) (diskOf g blocks marks (recvReadSuperblockNext d which id)) id (bitOf which)
+  recv-read-clauses z e =
+      let a = recv-read-superblock-asked (d .superblockReads) which id e in
+      let free = room-array 8 (readsAt (d .superblockReads) which .count) (readsAt (d .superblockReads) which .ids) 1 (a .room) in
+      record { new1 = a .new1; new2 = a .new2; next = received (omega arith) }
+
+  pub clauses-recv-read : SizedDisk d → DiskTables d → which ≤ 1 → (s′ : D.Variables) → D.RecvReadSuperblock (diskOf g blocks marks d) s′ id (bitOf which)
+      → AtMost 8 (at (s′ .reqReadSuperblocks) (bitOf which)) → askRecvReadSuperblock (d .superblockReads) which id ≡ 0
+  clauses-recv-read z t h s′ a w =
+      let r : IdTable = readsAt (d .superblockReads) which in
+      let k : Table (r .count) (r .ids) = reads-table (d .superblockReads) which (t .reads1) (t .reads2) in
+      let size = reads-sized (d .superblockReads) which (z .reads1) (z .reads2) .ids-long in
+      let new : idSet r id ≡ false = ap (λ (x : Ids). x id) (reads-set (d .superblockReads) which) ∙ new-at (bitOf which) (a .new1) (a .new2) in
+      let few : AtMost 8 (join (idSet r) id) =
+      subst (AtMost 8)
+      (ap (λ (x : D.Variables). at (x .reqReadSuperblocks) (bitOf which)) (a .next)
+      ∙ at-put (diskOf g blocks marks d .reqReadSuperblocks) (bitOf which) (join (at (diskOf g blocks marks d .reqReadSuperblocks) (bitOf which)) id)
+      ∙ ap (λ (x : Ids). join x id) (sym (reads-set (d .superblockReads) which)))
+      w
+      in
+      let f = add-asked 8 (r .count) (r .ids) id (few-add (r .count) (r .count) (r .ids) (counted-own (r .count) (r .ids) k) 8 id (omega arith) new few) in
+      asks-recv-read-superblock (d .superblockReads) which id
+      (record { which-in = h; new1 = a .new1; new2 = a .new2; room = has-room 8 (r .count) (r .ids) 1 (omega (arith, f .below)) (omega (arith, f .free)) })
+    where
+      new-at : (b : Bool) → at (diskOf g blocks marks d .reqReadSuperblocks) false id ≡ false → at (diskOf g blocks marks d .reqReadSuperblocks) true id ≡ false
+          → at (diskOf g blocks marks d .reqReadSuperblocks) b id ≡ false
+      new-at true p1 p2 = p2
+      new-at false p1 p2 = p1
+
   pub recvReadSuperblock-sound : SizedDisk d → recvReadSuperblock g d which id blocks marks .answer ≡ answer.Done
       → DiskAllowed g limits (diskOf g blocks marks d) (diskOf g blocks marks (recvReadSuperblock g d which id blocks marks .disk)) (Operation (ReqReadSuperblockOp id (bitOf which)))
   recvReadSuperblock-sound z e =
       sound-by g blocks marks d z (askRecvReadSuperblock (d .superblockReads) which id) (recvReadSuperblockNext d which id) (Operation (ReqReadSuperblockOp id (bitOf which))) e
-      (λ e0 m.
-      let a = recv-read-superblock-asked (d .superblockReads) which id e0 in
-      let free = room-array 8 (readsAt (d .superblockReads) which .count) (readsAt (d .superblockReads) which .ids) 1 (a .room) in
-      record { new1 = a .new1; new2 = a .new2; next = received (omega arith) })
+      (λ e0 m. recv-read-clauses z e0)
 
   pub recvReadSuperblock-complete : SizedDisk d → DiskTables d → Lent g blocks marks → which ≤ 1 → (s′ : D.Variables)
       → DiskAllowed g limits (diskOf g blocks marks d) s′ (Operation (ReqReadSuperblockOp id (bitOf which)))
       → DiskWithin g limits s′ (Operation (ReqReadSuperblockOp id (bitOf which)))
       → (recvReadSuperblock g d which id blocks marks .answer ≡ answer.Done) × (diskOf g blocks marks (recvReadSuperblock g d which id blocks marks .disk) ≡ s′)
   recvReadSuperblock-complete z t l h s′ a w =
-      let r : IdTable = readsAt (d .superblockReads) which in
-      let k : Table (r .count) (r .ids) = reads-table (d .superblockReads) which (t .reads1) (t .reads2) in
-      let size = reads-sized (d .superblockReads) which (z .reads1) (z .reads2) .ids-long in
-      let new : idSet r id ≡ false = ap (λ (x : Ids). x id) (reads-set (d .superblockReads) which) ∙ new-at (bitOf which) (a .step .new1) (a .step .new2) in
-      let few : AtMost 8 (join (idSet r) id) =
-      subst (AtMost 8)
-      (ap (λ (x : D.Variables). at (x .reqReadSuperblocks) (bitOf which)) (a .step .next)
-      ∙ at-put (diskOf g blocks marks d .reqReadSuperblocks) (bitOf which) (join (at (diskOf g blocks marks d .reqReadSuperblocks) (bitOf which)) id)
-      ∙ ap (λ (x : Ids). join x id) (sym (reads-set (d .superblockReads) which)))
-      (w .counts .superblock-reads-few (bitOf which))
-      in
-      let f = add-asked 8 (r .count) (r .ids) id (few-add (r .count) (r .count) (r .ids) (counted-own (r .count) (r .ids) k) 8 id (omega arith) new few) in
-      complete-by g blocks marks d z (askRecvReadSuperblock (d .superblockReads) which id) (recvReadSuperblockNext d which id) s′ t l (a .meets)
-      (asks-recv-read-superblock (d .superblockReads) which id
-      (record { which-in = h; new1 = a .step .new1; new2 = a .step .new2; room = has-room 8 (r .count) (r .ids) 1 (omega (arith, f .below)) (omega (arith, f .free)) }))
-      (received (f .free) ∙ sym (a .step .next))
-    where
-      new-at : (b : Bool) → at (diskOf g blocks marks d .reqReadSuperblocks) false id ≡ false → at (diskOf g blocks marks d .reqReadSuperblocks) true id ≡ false
-          → at (diskOf g blocks marks d .reqReadSuperblocks) b id ≡ false
-      new-at true p1 p2 = p2
-      new-at false p1 p2 = p1
+      let e = clauses-recv-read z t h s′ (a .step) (w .counts .superblock-reads-few (bitOf which)) in
+      complete-by g blocks marks d z (askRecvReadSuperblock (d .superblockReads) which id) (recvReadSuperblockNext d which id) s′ t l (a .meets) e
+      (recv-read-clauses z e .next ∙ sym (a .step .next))
 
   pub recvReadSuperblock-refused : (n : ℕ) → recvReadSuperblock g d which id blocks marks .answer ≡ answer.Refused n → recvReadSuperblock g d which id blocks marks .disk ≡ d
   recvReadSuperblock-refused n e =
@@ -164,24 +174,42 @@ module _ (g : Geometry) (d : Disk) (which id : ℕ) (blocks marks : List ℕ) wh
       ap (λ (o : MaybeSuperblock). readIn (readFrom true o)) (k .1) ∙ ap readIn (read-whole (k .0)) ∙ sym (ap superblockIn (k .1)) ∙ e
   shown false x y e h v p = none-some (ap readIn (read-damaged x)) p
 
+  -- the source's clauses, of a yes: by whole or damaged, and with what was read
+  pub ack-read-clauses : (t : DiskTables d) (whole : Bool) → askAckReadSuperblock (d .slots) (d .superblockReads) which id whole ≡ 0
+      → D.AckReadSuperblock (diskOf g blocks marks d) (diskOf g blocks marks (ackReadSuperblockNext d which id)) id (bitOf which) (readIn (readFrom whole (slotAt (d .slots) which)))
+  ack-read-clauses t whole e =
+      record {
+        waiting = sym waiting-at ∙ ack-read-superblock-waiting (d .superblockReads) which id (d .slots) whole e .waiting;
+        whole =
+            shown whole (slotAt (d .slots) which) (at (diskOf g blocks marks d .superblocks) (bitOf which)) slot-view
+            (by whole (ack-read-superblock-may (d .superblockReads) which id (d .slots) whole e));
+        next = read-answered t;
+      }
+    where
+      by : (whole : Bool) → mayRead whole (slotAt (d .slots) which) ≡ true → whole ≡ true → (s : Superblock) × (slotAt (d .slots) which ≡ slot.Holds s)
+      by true y h = whole-holds (slotAt (d .slots) which) y
+      by false y h = ruin (cc)
+
+  pub read-as-clauses : (t : DiskTables d) (x : SuperblockRead) → askReadSuperblockAs (d .slots) (d .superblockReads) which id x ≡ 0
+      → D.AckReadSuperblock (diskOf g blocks marks d) (diskOf g blocks marks (ackReadSuperblockNext d which id)) id (bitOf which) (readIn x)
+  read-as-clauses t x e =
+      record {
+        waiting = sym waiting-at ∙ read-superblock-as-waiting (d .superblockReads) which id (d .slots) x e .waiting;
+        whole = held x (read-superblock-as-holds (d .superblockReads) which id (d .slots) x e);
+        next = read-answered t;
+      }
+    where
+      held : (x : SuperblockRead) → holdsRead (slotAt (d .slots) which) x ≡ true → (v : Superblock) → readIn x ≡ some v → readIn x ≡ at (diskOf g blocks marks d .superblocks) (bitOf which)
+      held (read.Whole s) y v p = sym (ap superblockIn (whole-held (slotAt (d .slots) which) s y)) ∙ slot-view
+      held read.Damaged y v p = none-some refl p
+
   pub ackReadSuperblock-sound : SizedDisk d → (whole : Bool) (x : SuperblockRead) → ackReadSuperblock g d which id whole blocks marks .answer ≡ superblockAnswer.Read x
       → DiskAllowed g limits (diskOf g blocks marks d) (diskOf g blocks marks (ackReadSuperblock g d which id whole blocks marks .disk))
       (Operation (RespReadSuperblockOp id (bitOf which) (readIn x)))
   ackReadSuperblock-sound z whole x e =
       read-sound-by g blocks marks d z (askAckReadSuperblock (d .slots) (d .superblockReads) which id whole) (readFrom whole (slotAt (d .slots) which)) (ackReadSuperblockNext d which id)
       (λ (v : SuperblockRead). Operation (RespReadSuperblockOp id (bitOf which) (readIn v))) x e
-      (λ e0 m.
-      let w = ack-read-superblock-waiting (d .superblockReads) which id (d .slots) whole e0 in
-      let y = ack-read-superblock-may (d .superblockReads) which id (d .slots) whole e0 in
-      record {
-        waiting = sym waiting-at ∙ w .waiting;
-        whole = shown whole (slotAt (d .slots) which) (at (diskOf g blocks marks d .superblocks) (bitOf which)) slot-view (by whole y);
-        next = read-answered (m .tables);
-      })
-    where
-      by : (whole : Bool) → mayRead whole (slotAt (d .slots) which) ≡ true → whole ≡ true → (s : Superblock) × (slotAt (d .slots) which ≡ slot.Holds s)
-      by true y h = whole-holds (slotAt (d .slots) which) y
-      by false y h = ruin (cc)
+      (λ e0 m. ack-read-clauses (m .tables) whole e0)
 
   -- the slot that the source reads
   pub holds-of : (v : Superblock) → some v ≡ at (diskOf g blocks marks d .superblocks) (bitOf which) → slotAt (d .slots) which ≡ slot.Holds v
@@ -190,6 +218,15 @@ module _ (g : Geometry) (d : Disk) (which id : ℕ) (blocks marks : List ℕ) wh
       go : (x : MaybeSuperblock) → superblockIn x ≡ some v → x ≡ slot.Holds v
       go (slot.Holds t) p = cc
       go slot.Empty p = ruin (cc)
+
+  pub clauses-read-as : which ≤ 1 → (superblock : Option Superblock) (s′ : D.Variables) → D.AckReadSuperblock (diskOf g blocks marks d) s′ id (bitOf which) superblock
+      → askReadSuperblockAs (d .slots) (d .superblockReads) which id (readOf superblock) ≡ 0
+  clauses-read-as h superblock s′ a =
+      asks-read-superblock-as (d .superblockReads) which id (d .slots) (readOf superblock) (record { which-in = h; waiting = waiting-at ∙ a .waiting }) (go superblock (a .whole))
+    where
+      go : (o : Option Superblock) → ((v : Superblock) → o ≡ some v → o ≡ at (diskOf g blocks marks d .superblocks) (bitOf which)) → holdsRead (slotAt (d .slots) which) (readOf o) ≡ true
+      go none f = held-damaged (slotAt (d .slots) which)
+      go (some v) f = ap (λ (x : MaybeSuperblock). holdsRead x (read.Whole v)) (holds-of v (f v refl)) ∙ held-whole v
 
   pub ackReadSuperblock-complete : SizedDisk d → DiskTables d → Lent g blocks marks → which ≤ 1 → (superblock : Option Superblock) (s′ : D.Variables)
       → DiskAllowed g limits (diskOf g blocks marks d) s′ (Operation (RespReadSuperblockOp id (bitOf which) superblock))

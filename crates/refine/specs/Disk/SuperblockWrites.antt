@@ -83,19 +83,25 @@ module _ (g : Geometry) (d : Disk) (which : ℕ) (blocks marks : List ℕ) where
         D.to-reqWriteSuperblocks (writes-placed (d .superblockWrites) which (write.Writing id superblock) (some (record { id = id; req = requestOf superblock })) refl i)
         (diskOf g blocks marks d))
 
+    -- the source's clauses, of a yes, and back
+    pub recv-write-clauses : askRecvWriteSuperblock (d .superblockWrites) which id ≡ 0
+        → D.RecvWriteSuperblock (diskOf g blocks marks d) (diskOf g blocks marks (recvWriteSuperblockNext d which id superblock)) id (bitOf which) (requestOf superblock)
+    recv-write-clauses e =
+        let a = recv-write-superblock-asked (d .superblockWrites) which id e in
+        record { new1 = other-in (d .superblockWrites .first) id (a .new1); new2 = other-in (d .superblockWrites .second) id (a .new2); next = received }
+
+    pub clauses-recv-write : which ≤ 1 → (s′ : D.Variables) → D.RecvWriteSuperblock (diskOf g blocks marks d) s′ id (bitOf which) (requestOf superblock)
+        → askRecvWriteSuperblock (d .superblockWrites) which id ≡ 0
+    clauses-recv-write h s′ a =
+        asks-recv-write-superblock (d .superblockWrites) which id
+        (record { which-in = h; new1 = in-other (d .superblockWrites .first) id (a .new1); new2 = in-other (d .superblockWrites .second) id (a .new2) })
+
     pub recvWriteSuperblock-sound : SizedDisk d → recvWriteSuperblock g d which id superblock blocks marks .answer ≡ answer.Done
         → DiskAllowed g limits (diskOf g blocks marks d) (diskOf g blocks marks (recvWriteSuperblock g d which id superblock blocks marks .disk))
         (Operation (ReqWriteSuperblockOp id (bitOf which) (requestOf superblock)))
     recvWriteSuperblock-sound z e =
         sound-by g blocks marks d z (askRecvWriteSuperblock (d .superblockWrites) which id) (recvWriteSuperblockNext d which id superblock)
-        (Operation (ReqWriteSuperblockOp id (bitOf which) (requestOf superblock))) e
-        (λ e0 m.
-        let a = recv-write-superblock-asked (d .superblockWrites) which id e0 in
-        record {
-          new1 = other-in (d .superblockWrites .first) id (a .new1);
-          new2 = other-in (d .superblockWrites .second) id (a .new2);
-          next = received;
-        })
+        (Operation (ReqWriteSuperblockOp id (bitOf which) (requestOf superblock))) e (λ e0 m. recv-write-clauses e0)
 
     pub recvWriteSuperblock-complete : SizedDisk d → DiskTables d → Lent g blocks marks → which ≤ 1 → (s′ : D.Variables)
         → DiskAllowed g limits (diskOf g blocks marks d) s′ (Operation (ReqWriteSuperblockOp id (bitOf which) (requestOf superblock)))
@@ -103,12 +109,7 @@ module _ (g : Geometry) (d : Disk) (which : ℕ) (blocks marks : List ℕ) where
         × (diskOf g blocks marks (recvWriteSuperblock g d which id superblock blocks marks .disk) ≡ s′)
     recvWriteSuperblock-complete z t l h s′ a =
         complete-by g blocks marks d z (askRecvWriteSuperblock (d .superblockWrites) which id) (recvWriteSuperblockNext d which id superblock) s′ t l (a .meets)
-        (asks-recv-write-superblock (d .superblockWrites) which id
-        (record {
-          which-in = h;
-          new1 = in-other (d .superblockWrites .first) id (a .step .new1);
-          new2 = in-other (d .superblockWrites .second) id (a .step .new2);
-        }))
+        (clauses-recv-write h s′ (a .step))
         (received ∙ sym (a .step .next))
 
     pub recvWriteSuperblock-refused : (n : ℕ) → recvWriteSuperblock g d which id superblock blocks marks .answer ≡ answer.Refused n
@@ -161,12 +162,11 @@ module _ (g : Geometry) (d : Disk) (which : ℕ) (blocks marks : List ℕ) where
         ap (diskOf g blocks marks) (ack-write-superblock-next d which)
         ∙ (λ i. D.to-reqWriteSuperblocks (writes-placed (d .superblockWrites) which write.NoWrite none refl i) (diskOf g blocks marks d))
 
-    pub ackWriteSuperblock-sound : SizedDisk d → ackWriteSuperblock g d which id blocks marks .answer ≡ answer.Done
-        → DiskAllowed g limits (diskOf g blocks marks d) (diskOf g blocks marks (ackWriteSuperblock g d which id blocks marks .disk)) (Operation (RespWriteSuperblockOp id (bitOf which)))
-    ackWriteSuperblock-sound z e =
-        sound-by g blocks marks d z (askAckWriteSuperblock (d .slots) (d .superblockWrites) which id) (ackWriteSuperblockNext d which) (Operation (RespWriteSuperblockOp id (bitOf which))) e
-        (λ e0 m.
-        let a = ack-write-superblock-asked (d .slots) (d .superblockWrites) which id e0 in
+    -- the source's clauses, of a yes, and back
+    pub ack-write-clauses : askAckWriteSuperblock (d .slots) (d .superblockWrites) which id ≡ 0
+        → D.AckWriteSuperblock (diskOf g blocks marks d) (diskOf g blocks marks (ackWriteSuperblockNext d which)) id (bitOf which)
+    ack-write-clauses e =
+        let a = ack-write-superblock-asked (d .slots) (d .superblockWrites) which id e in
         let k = is-write (writeAt (d .superblockWrites) which) id (a .id-is) in
         let s = landed-holds (slotAt (d .slots) which) id (k .0) (ap (landed (slotAt (d .slots) which)) (sym (k .1)) ∙ a .is-landed) in
         record {
@@ -175,24 +175,35 @@ module _ (g : Geometry) (d : Disk) (which : ℕ) (blocks marks : List ℕ) where
           id-is = refl;
           landed = sym (ap superblockIn s) ∙ slot-view g d which id blocks marks;
           next = answered-write;
+        }
+
+    pub clauses-ack-write : which ≤ 1 → (s′ : D.Variables) → D.AckWriteSuperblock (diskOf g blocks marks d) s′ id (bitOf which)
+        → askAckWriteSuperblock (d .slots) (d .superblockWrites) which id ≡ 0
+    clauses-ack-write h s′ a =
+        let w : ReqWriteSuperblockId = a .write in
+        let k : writeAt (d .superblockWrites) which ≡ write.Writing id (w .req .superblock) =
+        write-of (writeAt (d .superblockWrites) which) w (write-view ∙ a .waiting) ∙ ap (λ (n : ℕ). write.Writing n (w .req .superblock)) (sym (a .id-is))
+        in
+        let s = holds-of g d which id blocks marks (w .req .superblock) (a .landed) in
+        asks-ack-write-superblock (d .slots) (d .superblockWrites) which id
+        (record {
+          which-in = h;
+          id-is = ap (λ (x : SuperblockWrite). isWrite x id) k ∙ write-is id (w .req .superblock);
+          is-landed = (λ i. landed (s i) (k i)) ∙ holds-landed id (w .req .superblock);
         })
+
+    pub ackWriteSuperblock-sound : SizedDisk d → ackWriteSuperblock g d which id blocks marks .answer ≡ answer.Done
+        → DiskAllowed g limits (diskOf g blocks marks d) (diskOf g blocks marks (ackWriteSuperblock g d which id blocks marks .disk)) (Operation (RespWriteSuperblockOp id (bitOf which)))
+    ackWriteSuperblock-sound z e =
+        sound-by g blocks marks d z (askAckWriteSuperblock (d .slots) (d .superblockWrites) which id) (ackWriteSuperblockNext d which) (Operation (RespWriteSuperblockOp id (bitOf which))) e
+        (λ e0 m. ack-write-clauses e0)
 
     pub ackWriteSuperblock-complete : SizedDisk d → DiskTables d → Lent g blocks marks → which ≤ 1 → (s′ : D.Variables)
         → DiskAllowed g limits (diskOf g blocks marks d) s′ (Operation (RespWriteSuperblockOp id (bitOf which)))
         → (ackWriteSuperblock g d which id blocks marks .answer ≡ answer.Done) × (diskOf g blocks marks (ackWriteSuperblock g d which id blocks marks .disk) ≡ s′)
     ackWriteSuperblock-complete z t l h s′ a =
-        let w : ReqWriteSuperblockId = a .step .write in
-        let k : writeAt (d .superblockWrites) which ≡ write.Writing id (w .req .superblock) =
-        write-of (writeAt (d .superblockWrites) which) w (write-view ∙ a .step .waiting) ∙ ap (λ (n : ℕ). write.Writing n (w .req .superblock)) (sym (a .step .id-is))
-        in
-        let s = holds-of g d which id blocks marks (w .req .superblock) (a .step .landed) in
         complete-by g blocks marks d z (askAckWriteSuperblock (d .slots) (d .superblockWrites) which id) (ackWriteSuperblockNext d which) s′ t l (a .meets)
-        (asks-ack-write-superblock (d .slots) (d .superblockWrites) which id
-        (record {
-          which-in = h;
-          id-is = ap (λ (x : SuperblockWrite). isWrite x id) k ∙ write-is id (w .req .superblock);
-          is-landed = (λ i. landed (s i) (k i)) ∙ holds-landed id (w .req .superblock);
-        }))
+        (clauses-ack-write h s′ (a .step))
         (answered-write ∙ sym (a .step .next))
 
     pub ackWriteSuperblock-refused : (n : ℕ) → ackWriteSuperblock g d which id blocks marks .answer ≡ answer.Refused n → ackWriteSuperblock g d which id blocks marks .disk ≡ d

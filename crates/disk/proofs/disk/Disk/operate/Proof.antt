@@ -1,7 +1,6 @@
 use mathlib.Core.Path.{refl}
 use Rattle.laws.specs.Choice.{unless-same}
 use Rattle.disk.specs.Disk.{answered}
-use Rattle.disk.specs.Operation.{askOperation, operationNext, operationBlocks, operationMarks, operationOut}
 use Rattle.disk.specs.Laws.Answers.{read-answered, read-copied}
 use borrow.Author.Needs.{needs}
 use Rattle.disk.proofs.disk.Disk.operate.Statement.{statement}
@@ -65,15 +64,12 @@ enum-told : tie.Need-enum-told
 enum-told c = search needs
 
 returns : tie.Need-returns
-unfolding askOperation operationNext operationBlocks operationMarks operationOut
 returns c = rw (c .before .before .op .given .1) (c .recv-read-superblock-asked .ensures, (unless-same _ _, (unless-same _ _, unless-same _ _)))
 
 returns-2 : tie.Need-returns-2
-unfolding askOperation operationNext operationBlocks operationMarks operationOut
 returns-2 c = rw (c .before .before .op2 .given .1) (c .recv-read-journal-asked .ensures, (unless-same _ _, (unless-same _ _, unless-same _ _)))
 
 returns-3 : tie.Need-returns-3
-unfolding askOperation operationNext operationBlocks operationMarks operationOut
 returns-3 c = rw (c .before .before .op3 .given .1) (c .recv-write-superblock-asked .ensures, (unless-same _ _, (unless-same _ _, unless-same _ _)))
 
 same-length : tie.Need-same-length
@@ -83,11 +79,9 @@ same-length-2 : tie.Need-same-length-2
 same-length-2 c = search needs
 
 returns-4 : tie.Need-returns-4
-unfolding askOperation operationNext operationBlocks operationMarks operationOut
 returns-4 c = let r = c .before .before .before .before .write-blocks .ensures in rw (c .before .before .before .before .before .before .before .before .op4 .given .1) (r .0, (r .1 .0, (r .1 .1, unless-same _ _)))
 
 returns-5 : tie.Need-returns-5
-unfolding askOperation operationNext operationBlocks operationMarks operationOut
 returns-5 c = rw (c .before .before .op5 .given .1) (c .read-superblock-as .ensures, (unless-same _ _, (unless-same _ _, unless-same _ _)))
 
 same-length-3 : tie.Need-same-length-3
@@ -100,19 +94,16 @@ same-length-5 : tie.Need-same-length-5
 same-length-5 c = search needs
 
 returns-6 : tie.Need-returns-6
-unfolding askOperation operationNext operationBlocks operationMarks operationOut
 returns-6 c = let r = c .before .before .before .read-blocks .ensures in let e = c .before .before .before .before .before .before .before .is-whole .ensures in rw (c .before .before .before .before .before .before .before .before .before .op6 .given .1) (read-answered _ _ _ _ _ e _ _ _ _ (r .0) (c .as-stepped .ensures), (unless-same _ _, (unless-same _ _, read-copied _ _ _ _ _ e _ _ _ (r .1))))
 
 returns-7 : tie.Need-returns-7
-unfolding askOperation operationNext operationBlocks operationMarks operationOut
 returns-7 c = rw (c .before .before .op7 .given .1) (c .ack-write-superblock-asked .ensures, (unless-same _ _, (unless-same _ _, unless-same _ _)))
 
 returns-8 : tie.Need-returns-8
-unfolding askOperation operationNext operationBlocks operationMarks operationOut
 returns-8 c = rw (c .before .before .op8 .given .1) (c .ack-write-journal-asked .ensures, (unless-same _ _, (unless-same _ _, unless-same _ _)))
 
 returns-9 : tie.Need-returns-9
-unfolding askOperation operationNext operationBlocks operationMarks operationOut answered
+unfolding answered
 returns-9 c = rw (c .enum-told .given .1) (refl, (unless-same _ _, (unless-same _ _, unless-same _ _)))
 
 pub operate-spec : {M : Type 1} → statement M
