@@ -7,3 +7,4 @@ pub mod JournalReads
 pub mod SuperblockWrites
 pub mod JournalWrites
 pub mod Step
+pub mod Bounds

@@ -1,10 +1,10 @@
 -- The operations that touch lent blocks: what a yes to a journal write's questions tells, and back, and the buffer after a read's answer.
 use Prim.Native.Nat.{ℕ, _*_}
 use mathlib.Core.Bool.{true, false}
-use mathlib.Core.Path.{_≡_, refl}
+use mathlib.Core.Path.{_≡_, refl, _∙_}
 use mathlib.Core.List.{List}
 use lib.ListN.{length}
-use Rattle.laws.specs.Choice.{andThen-left, andThen-right, andThen-both}
+use Rattle.laws.specs.Choice.{andThen-left, andThen-right, andThen-both, andThen-next}
 use Rattle.layout.specs.declared.geometry.Geometry.{Geometry}
 use Rattle.interval.specs.declared.interval.JournalInterval.{JournalInterval}
 use Rattle.superblock.specs.declared.disk_op.MaybeId.{MaybeId}
@@ -26,6 +26,11 @@ module _ (g : Geometry) (t : IntervalTable) (id1 : ℕ) (id2 : MaybeId) (v : Jou
   pub asks-new-blocks : length new ≡ v .len * 4096 → askRecvWriteJournal g t id1 id2 v ≡ 0 → askNewBlocks g t id1 id2 v new ≡ 0
   unfolding askNewBlocks
   asks-new-blocks h e = andThen-both (askSize v new) (askRecvWriteJournal g t id1 id2 v) (asked-size v new h) e
+
+  -- with blocks of their size the rows decide
+  pub new-blocks-full : length new ≡ v .len * 4096 → askRecvWriteJournal g t id1 id2 v ≡ 8 → askNewBlocks g t id1 id2 v new ≡ 8
+  unfolding askNewBlocks
+  new-blocks-full h e = andThen-next (askSize v new) (askRecvWriteJournal g t id1 id2 v) (asked-size v new h) ∙ e
 
 module _ (v : JournalInterval) (blocks out : List ℕ) where
   pub out-whole : readOut true v blocks out ≡ copyBlocks blocks (v .start) (v .len) out 0

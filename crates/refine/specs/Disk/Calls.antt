@@ -3,7 +3,7 @@
 use Prim.Native.Nat.{ℕ}
 use mathlib.Core.Path.{_≡_, sym, _∙_, ap, subst}
 use mathlib.Core.List.{List}
-use Rattle.laws.specs.Choice.{andThen, andThen-left, andThen-right, andThen-both}
+use Rattle.laws.specs.Choice.{andThen, andThen-left, andThen-right, andThen-both, andThen-next}
 use Rattle.layout.specs.declared.geometry.Geometry.{Geometry}
 use Rattle.superblock.specs.declared.disk_op.SuperblockRead.{SuperblockRead}
 use Rattle.source.specs.JournalDisk as D
@@ -18,7 +18,7 @@ use Rattle.disk.specs.declared.disk.SuperblockAnswer.the-variants as superblock
 use Rattle.disk.specs.Disk.{answered}
 use Rattle.disk.specs.Questions.{askDisk}
 use Rattle.disk.specs.Acknowledge.{superblockAnswered}
-use Rattle.disk.specs.Laws.Answers.{done-asked, asked-done, read-asked, asked-read}
+use Rattle.disk.specs.Laws.Answers.{done-asked, asked-done, asked-refused, read-asked, asked-read}
 use Rattle.refine.specs.Disk.View.{diskOf, SizedDisk, DiskTables, Lent}
 use Rattle.refine.specs.Disk.Meets.{Met, disk-met, met-disk}
 
@@ -34,6 +34,15 @@ module _ (g : Geometry) (blocks marks : List ℕ) (d : Disk) (z : SizedDisk d) (
 
   -- an operation that is done, and leaves lent memory
   module _ (next : Disk) where
+    -- the answer by the operation's own questions
+    pub done-by : DiskTables d → Lent g blocks marks → DiskMeets g limits (diskOf g blocks marks d) → r ≡ 0 → answered asks next d .answer ≡ answer.Done
+    done-by t l m e = ap (λ (x : DiskStepped). x .answer) (asked-done asks next d (met-asks t l m e))
+
+    pub refused-by : DiskTables d → Lent g blocks marks → DiskMeets g limits (diskOf g blocks marks d) → (n : ℕ) → r ≡ n → (n ≡ 0 → ⊥) → answered asks next d .answer ≡ answer.Refused n
+    refused-by t l m n e h =
+        let k : asks ≡ n = andThen-next (askDisk g d blocks marks) r (met-disk g blocks marks d z (record { lent = l; tables = t; meets = m })) ∙ e in
+        ap (λ (x : DiskStepped). x .answer) (asked-refused asks next d (λ q. h (sym k ∙ q))) ∙ ap answer.Refused k
+
     pub sound-by : (event : DiskEvent) → answered asks next d .answer ≡ answer.Done
         → (r ≡ 0 → Met g blocks marks d z → DiskStep⁺ g (diskOf g blocks marks d) (diskOf g blocks marks next) event)
         → DiskAllowed g limits (diskOf g blocks marks d) (diskOf g blocks marks (answered asks next d .disk)) event

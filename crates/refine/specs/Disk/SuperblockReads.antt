@@ -43,7 +43,7 @@ use Rattle.refine.specs.Disk.Calls.{sound-by, complete-by, read-sound-by
 
 -- the table of one slot
 module _ (r : SuperblockReads) (which : ℕ) where
-  reads-sized : SizedIds (r .first) → SizedIds (r .second) → SizedIds (readsAt r which)
+  pub reads-sized : SizedIds (r .first) → SizedIds (r .second) → SizedIds (readsAt r which)
   reads-sized a b = subst SizedIds (sym (reads-at which r)) (go (bitOf which))
     where
       go : (w : Bool) → SizedIds (at (readPair r) w)
