@@ -4,7 +4,7 @@ use mathlib.Core.Bool.{true, false}
 use mathlib.Core.Path.{_≡_, refl, _∙_}
 use mathlib.Core.List.{List}
 use lib.ListN.{length}
-use Rattle.laws.specs.Choice.{andThen-left, andThen-right, andThen-both, andThen-next}
+use Rattle.laws.specs.Choice.{andThen-left, andThen-right, andThen-both, andThen-done}
 use Rattle.layout.specs.declared.geometry.Geometry.{Geometry}
 use Rattle.interval.specs.declared.interval.JournalInterval.{JournalInterval}
 use Rattle.superblock.specs.declared.disk_op.MaybeId.{MaybeId}
@@ -30,7 +30,7 @@ module _ (g : Geometry) (t : IntervalTable) (id1 : ℕ) (id2 : MaybeId) (v : Jou
   -- with blocks of their size the rows decide
   pub new-blocks-full : length new ≡ v .len * 4096 → askRecvWriteJournal g t id1 id2 v ≡ 8 → askNewBlocks g t id1 id2 v new ≡ 8
   unfolding askNewBlocks
-  new-blocks-full h e = andThen-next (askSize v new) (askRecvWriteJournal g t id1 id2 v) (asked-size v new h) ∙ e
+  new-blocks-full h e = andThen-done (askSize v new) (askRecvWriteJournal g t id1 id2 v) (asked-size v new h) ∙ e
 
 module _ (v : JournalInterval) (blocks out : List ℕ) where
   pub out-whole : readOut true v blocks out ≡ copyBlocks blocks (v .start) (v .len) out 0

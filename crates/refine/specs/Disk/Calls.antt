@@ -3,7 +3,7 @@
 use Prim.Native.Nat.{ℕ}
 use mathlib.Core.Path.{_≡_, sym, _∙_, ap, subst}
 use mathlib.Core.List.{List}
-use Rattle.laws.specs.Choice.{andThen, andThen-left, andThen-right, andThen-both, andThen-next}
+use Rattle.laws.specs.Choice.{andThen, andThen-left, andThen-right, andThen-both, andThen-done}
 use Rattle.layout.specs.declared.geometry.Geometry.{Geometry}
 use Rattle.superblock.specs.declared.disk_op.SuperblockRead.{SuperblockRead}
 use Rattle.source.specs.JournalDisk as D
@@ -40,7 +40,7 @@ module _ (g : Geometry) (blocks marks : List ℕ) (d : Disk) (z : SizedDisk d) (
 
     pub refused-by : DiskTables d → Lent g blocks marks → DiskMeets g limits (diskOf g blocks marks d) → (n : ℕ) → r ≡ n → (n ≡ 0 → ⊥) → answered asks next d .answer ≡ answer.Refused n
     refused-by t l m n e h =
-        let k : asks ≡ n = andThen-next (askDisk g d blocks marks) r (met-disk g blocks marks d z (record { lent = l; tables = t; meets = m })) ∙ e in
+        let k : asks ≡ n = andThen-done (askDisk g d blocks marks) r (met-disk g blocks marks d z (record { lent = l; tables = t; meets = m })) ∙ e in
         ap (λ (x : DiskStepped). x .answer) (asked-refused asks next d (λ q. h (sym k ∙ q))) ∙ ap answer.Refused k
 
     pub sound-by : (event : DiskEvent) → answered asks next d .answer ≡ answer.Done
