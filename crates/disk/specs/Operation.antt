@@ -16,7 +16,7 @@ use Rattle.disk.specs.declared.disk.DiskAnswer.the-variants as answer
 use Rattle.disk.specs.declared.disk.JournalAcked.{JournalAcked}
 use Rattle.disk.specs.declared.disk.JournalAnswer.{JournalAnswer}
 use Rattle.disk.specs.declared.disk.JournalAnswer.the-variants as journalAnswer
-use Rattle.disk.specs.Receive.{askRecvReadSuperblock, askRecvReadJournal, askRecvWriteSuperblock, recvReadSuperblockNext, recvReadJournalNext, recvWriteSuperblockNext, recvWriteJournalNext}
+use Rattle.disk.specs.Receive.{askRecvReadSuperblock, askRecvReadJournal, askRecvWriteSuperblock, askRecvWriteJournal, recvReadSuperblockNext, recvReadJournalNext, recvWriteSuperblockNext, recvWriteJournalNext}
 use Rattle.disk.specs.Acknowledge.{askReadSuperblockAs, heldInterval, askAckReadJournal, askAckWriteSuperblock, askAckWriteJournal, ackReadSuperblockNext, ackReadJournalNext, ackWriteSuperblockNext, ackWriteJournalNext}
 use Rattle.disk.specs.Memory.{askNewBlocks, readOut}
 
@@ -42,6 +42,18 @@ askOperation g d (op.RespReadJournal id journal) new marks = askAckReadJournal (
 askOperation g d (op.RespWriteSuperblock id which) new marks = askAckWriteSuperblock (d .slots) (d .superblockWrites) which id
 askOperation g d (op.RespWriteJournal id) new marks = askAckWriteJournal (d .journalWrites) id
 askOperation g d op.NoDiskOp new marks = 0
+
+-- what can be asked without lent memory: not how many bytes of a write are lent, nor whether the blocks of a whole read are readable
+abbrev pub askDecision : Geometry → Disk → DiskOp → ℕ
+askDecision g d (op.ReqReadSuperblock id which) = askRecvReadSuperblock (d .superblockReads) which id
+askDecision g d (op.ReqReadJournal id v) = askRecvReadJournal g (d .journalReads) id v
+askDecision g d (op.ReqWriteSuperblock id which superblock) = askRecvWriteSuperblock (d .superblockWrites) which id
+askDecision g d (op.ReqWriteJournal id1 id2 start count) = askRecvWriteJournal g (d .journalWrites) id1 id2 (interval start count)
+askDecision g d (op.RespReadSuperblock id which superblock) = askReadSuperblockAs (d .slots) (d .superblockReads) which id superblock
+askDecision g d (op.RespReadJournal id journal) = askAckWriteJournal (d .journalReads) id
+askDecision g d (op.RespWriteSuperblock id which) = askAckWriteSuperblock (d .slots) (d .superblockWrites) which id
+askDecision g d (op.RespWriteJournal id) = askAckWriteJournal (d .journalWrites) id
+askDecision g d op.NoDiskOp = 0
 
 abbrev pub operationNext : Geometry → Disk → DiskOp → Disk
 operationNext g d (op.ReqReadSuperblock id which) = recvReadSuperblockNext d which id

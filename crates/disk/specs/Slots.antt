@@ -42,3 +42,7 @@ putWrite s which x = record { first = chosen which x (s .first); second = chosen
 unfoldable pub isWrite : SuperblockWrite → ℕ → Bool
 isWrite (write.Writing other superblock) id = eqb other id
 isWrite write.NoWrite id = false
+
+-- the slot whose write in flight has this id; the first where neither has
+unfoldable pub slotOf : SuperblockWrites → ℕ → ℕ
+slotOf w id = cond (isWrite (w .second) id) 1 0

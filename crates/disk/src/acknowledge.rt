@@ -233,7 +233,16 @@ impl Disk {
         }
     }
 
-    // The same where the answer comes with what was read.
+    // What a read of the slot comes back with: whole, the slot's own superblock; or damaged.
+    pub fn content(self, which: u64, whole: bool) -> SuperblockRead
+        ensures { λ r. ⌜ r ≡ readFrom whole (slotAt (self .slots) which) ⌝ }
+    {
+        let slots = self.slots;
+        let slot = slots.at(which);
+        read_from(whole, slot)
+    }
+
+    // A superblock read's answer that comes with what was read.
     pub(crate) fn read_superblock_as(
         mut self,
         which: u64,
@@ -276,6 +285,26 @@ impl Disk {
         self.journalReads = next;
         JournalAcked {
             answer: JournalAnswer::Read(v),
+            disk: self,
+        }
+    }
+
+    // A journal read's answer, but for question 6, which is asked of the marks.
+    pub(crate) fn read_journal_answered(mut self, id: u64) -> DiskStepped
+        ensures { λ r. ⌜ r ≡ answered (askAckWriteJournal (self .journalReads) id) (ackReadJournalNext self id) self ⌝ }
+    {
+        let table = self.journalReads;
+        let q = ask_ack_write_journal(table, id);
+        if q != 0 {
+            return DiskStepped {
+                answer: DiskAnswer::Refused(q),
+                disk: self,
+            };
+        }
+        let next = interval_left(table, id);
+        self.journalReads = next;
+        DiskStepped {
+            answer: DiskAnswer::Done,
             disk: self,
         }
     }

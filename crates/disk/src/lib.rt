@@ -11,7 +11,7 @@
 //   DiskStepped, SuperblockAcked, JournalAcked     what they answer: the next disk, or the number of a no and the disk as it was
 // Each of these operations asks every question. One named `.._asked` is a part of an operation for a step that has asked questions 1 and 2
 // itself: it asks the others, decides by value and on shared slices, and leaves lent memory to journal's `write_blocks`, `set_marks` and
-// `copy_blocks`. Every function is total.
+// `copy_blocks`; `decide_asked` is such a part for any operation. Every function is total.
 mod acknowledge;
 mod disk;
 mod landing;

@@ -11,7 +11,7 @@ use superblock::JournalRead;
 ghost use mathlib.Core.Path.{_≡_};
 ghost use Rattle.laws.specs.Choice.{unless};
 ghost use Rattle.disk.specs.Disk.{answered};
-ghost use Rattle.disk.specs.Operation.{isWhole, asStepped, askOperation, operationNext, operationBlocks, operationMarks, operationOut};
+ghost use Rattle.disk.specs.Operation.{isWhole, asStepped, askDecision, askOperation, operationNext, operationBlocks, operationMarks, operationOut};
 ghost use Rattle.disk.specs.Whole.{step, stepBlocks, stepMarks, stepOut};
 
 fn is_whole(read: JournalRead) -> bool
@@ -41,6 +41,50 @@ fn as_stepped(r: JournalAcked) -> DiskStepped
 }
 
 impl Disk {
+    // The operation decided by value, after questions 1 and 2; no step by itself. It asks what can be asked without lent memory: of a journal
+    // write not how many bytes are lent, of a read's whole answer not whether the blocks are readable.
+    pub fn decide_asked(self, g: Geometry, op: DiskOp) -> DiskStepped
+        ensures { λ r. ⌜ r ≡ answered (askDecision g self op) (operationNext g self op) self ⌝ }
+    {
+        match op {
+            DiskOp::ReqReadSuperblock { id, which } => self.recv_read_superblock_asked(which, id),
+            DiskOp::ReqReadJournal { id, interval } => self.recv_read_journal_asked(
+                g,
+                id,
+                interval,
+            ),
+            DiskOp::ReqWriteSuperblock {
+                id,
+                which,
+                superblock,
+            } => self.recv_write_superblock_asked(which, id, superblock),
+            DiskOp::ReqWriteJournal {
+                id1,
+                id2,
+                start,
+                blocks: count,
+            } => {
+                let v = JournalInterval {
+                    start: start,
+                    len: count,
+                };
+                self.recv_write_journal_asked(g, id1, id2, v)
+            }
+            DiskOp::RespReadSuperblock {
+                id,
+                which,
+                superblock,
+            } => self.read_superblock_as(which, id, superblock),
+            DiskOp::RespReadJournal { id, journal: _ } => self.read_journal_answered(id),
+            DiskOp::RespWriteSuperblock { id, which } => self.ack_write_superblock_asked(which, id),
+            DiskOp::RespWriteJournal { id } => self.ack_write_journal_asked(id),
+            DiskOp::NoDiskOp => DiskStepped {
+                answer: DiskAnswer::Done,
+                disk: self,
+            },
+        }
+    }
+
     // The operation, after questions 1 and 2; no step by itself.
     fn operate(
         self,

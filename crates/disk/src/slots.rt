@@ -4,7 +4,7 @@ use superblock::MaybeSuperblock;
 use superblock::Superblock;
 use tables::IdTable;
 ghost use mathlib.Core.Path.{_≡_};
-ghost use Rattle.disk.specs.Slots.{askWhich, slotAt, putSlot, readsAt, putReads, writeAt, putWrite, isWrite};
+ghost use Rattle.disk.specs.Slots.{askWhich, slotAt, putSlot, readsAt, putReads, writeAt, putWrite, isWrite, slotOf};
 
 pub struct Slots {
     pub first: MaybeSuperblock,
@@ -92,6 +92,18 @@ impl SuperblockReads {
 }
 
 impl SuperblockWrites {
+    // The slot whose write in flight has this id; the first where neither has.
+    pub fn slot_of(self, id: u64) -> u64
+        ensures { λ r. ⌜ r ≡ slotOf self id ⌝ }
+    {
+        let second = self.second;
+        let there = is_write(second, id);
+        if there {
+            return 1;
+        }
+        0
+    }
+
     pub fn at(self, which: u64) -> SuperblockWrite
         ensures { λ r. ⌜ r ≡ writeAt self which ⌝ }
     {

@@ -4,6 +4,7 @@
 //   ask_readable, full_range                   is every block of an interval readable? As question 6, and as a test
 //   cyclic_slice_bytes, cyclic_slice_marks     an interval's blocks, or marks, copied out in order
 //   journal_update                             an interval's blocks written, and their marks set
+//   bytes_of                                   the bytes of so many blocks, or of a memory where that is less
 //   copy_blocks, write_blocks, set_marks       the same copying and writing without a question, for a step that has asked
 // Every function is total. One that asks answers by an enum, the value or the refusal number, and a refusal leaves the lent memory as it
 // was. One that asks nothing is cut where the memory ends.
@@ -21,6 +22,7 @@ pub use questions::ask_marks;
 pub use questions::ask_size;
 pub use readable::ask_readable;
 pub use readable::full_range;
+pub use size::bytes_of;
 pub use slices::copy_blocks;
 pub use slices::cyclic_slice_bytes;
 pub use slices::cyclic_slice_marks;

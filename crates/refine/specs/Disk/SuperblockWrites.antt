@@ -127,28 +127,38 @@ module _ (g : Geometry) (d : Disk) (which : ℕ) (blocks marks : List ℕ) where
       ap (diskOf g blocks marks) (land-next d which)
       ∙ (λ i. D.to-superblocks (slots-placed (d .slots) which x (some s) h i) (diskOf g blocks marks d))
 
-  pub land-sound : SizedDisk d → land g d which blocks marks .answer ≡ answer.Done
-      → DiskAllowed g limits (diskOf g blocks marks d) (diskOf g blocks marks (land g d which blocks marks .disk)) (Internal (D.ProcessWriteSuperblockStep (bitOf which)))
-  land-sound z e =
-      sound-by g blocks marks d z (askLand (d .superblockWrites) which) (landNext d which) (Internal (D.ProcessWriteSuperblockStep (bitOf which))) e
-      (λ e0 m.
-      let a = land-asked (d .superblockWrites) which e0 in
+  -- the source's clauses, of a yes
+  pub land-clauses : askLand (d .superblockWrites) which ≡ 0 → D.ProcessWriteSuperblock (diskOf g blocks marks d) (diskOf g blocks marks (landNext d which)) (bitOf which)
+  land-clauses e =
+      let a = land-asked (d .superblockWrites) which e in
       let k = flight-write (writeAt (d .superblockWrites) which) (a .in-flight) in
       record {
         write = record { id = k .0; req = requestOf (k .1) };
         waiting = sym write-view ∙ ap writeIn (k .2);
         next = lands (k .0) (k .1) (k .2);
-      })
+      }
+
+  pub land-sound : SizedDisk d → land g d which blocks marks .answer ≡ answer.Done
+      → DiskAllowed g limits (diskOf g blocks marks d) (diskOf g blocks marks (land g d which blocks marks .disk)) (Internal (D.ProcessWriteSuperblockStep (bitOf which)))
+  land-sound z e =
+      sound-by g blocks marks d z (askLand (d .superblockWrites) which) (landNext d which) (Internal (D.ProcessWriteSuperblockStep (bitOf which))) e
+      (λ e0 m. land-clauses e0)
+
+  pub clauses-land : which ≤ 1 → (s′ : D.Variables) → D.ProcessWriteSuperblock (diskOf g blocks marks d) s′ (bitOf which)
+      → (askLand (d .superblockWrites) which ≡ 0) × (diskOf g blocks marks (landNext d which) ≡ s′)
+  clauses-land h s′ a =
+      let w : ReqWriteSuperblockId = a .write in
+      let k = write-of (writeAt (d .superblockWrites) which) w (write-view ∙ a .waiting) in (
+        asks-land (d .superblockWrites) which (record { which-in = h; in-flight = ap inFlight k ∙ write-flight (w .id) (w .req .superblock) }),
+        lands (w .id) (w .req .superblock) k ∙ sym (a .next),
+      )
 
   pub land-complete : SizedDisk d → DiskTables d → Lent g blocks marks → which ≤ 1 → (s′ : D.Variables)
       → DiskAllowed g limits (diskOf g blocks marks d) s′ (Internal (D.ProcessWriteSuperblockStep (bitOf which)))
       → (land g d which blocks marks .answer ≡ answer.Done) × (diskOf g blocks marks (land g d which blocks marks .disk) ≡ s′)
   land-complete z t l h s′ a =
-      let w : ReqWriteSuperblockId = a .step .write in
-      let k = write-of (writeAt (d .superblockWrites) which) w (write-view ∙ a .step .waiting) in
-      complete-by g blocks marks d z (askLand (d .superblockWrites) which) (landNext d which) s′ t l (a .meets)
-      (asks-land (d .superblockWrites) which (record { which-in = h; in-flight = ap inFlight k ∙ write-flight (w .id) (w .req .superblock) }))
-      (lands (w .id) (w .req .superblock) k ∙ sym (a .step .next))
+      let c = clauses-land h s′ (a .step) in
+      complete-by g blocks marks d z (askLand (d .superblockWrites) which) (landNext d which) s′ t l (a .meets) (c .0) (c .1)
 
   pub land-refused : (n : ℕ) → land g d which blocks marks .answer ≡ answer.Refused n → land g d which blocks marks .disk ≡ d
   land-refused n e = refused-same (andThen (askDisk g d blocks marks) (askLand (d .superblockWrites) which)) (landNext d which) d n e
