@@ -3,3 +3,4 @@ pub mod Ring
 pub mod Asked
 pub mod Next
 pub mod Facts
+pub mod Sends

@@ -44,6 +44,10 @@ noneFrozen e = eqb (e .frozen) 0
 abbrev pub replayed : Entries → Bool
 replayed e = leb (e .replay) (e .taken .entries)
 
+-- |replayJournal|
+abbrev pub replayLeft : Entries → ℕ
+replayLeft e = e .replay - e .taken .entries
+
 -- outstandingJournalWrites == {}
 abbrev pub noneOutstanding : Ready → Bool
 noneOutstanding r = eqb (r .writes .count) 0

@@ -2,7 +2,7 @@
 use super::sums::less;
 use memory::Count;
 ghost use mathlib.Core.Path.{_≡_};
-ghost use Rattle.ready.specs.State.{noneFrozen, replayed, sent, left};
+ghost use Rattle.ready.specs.State.{noneFrozen, replayed, replayLeft, sent, left};
 ghost use Rattle.ready.specs.Inv.{someFrozenOk, entriesOk};
 ghost use Rattle.ready.specs.JournalSteps.{writtenEntries};
 
@@ -32,6 +32,14 @@ impl Entries {
     {
         let taken = self.taken;
         self.replay <= taken.entries
+    }
+
+    // How many entries are left of the replay.
+    pub fn replay_left(self) -> u64
+        ensures { λ r. ⌜ r ≡ replayLeft self ⌝ }
+    {
+        let taken = self.taken;
+        less(self.replay, taken.entries)
     }
 
     // What a journal write sends: the frozen entries, or if there are none those in memory.

@@ -100,7 +100,7 @@ leftBy c e b = count (e .pending - sentBy c e b .entries) (b .pending - sentBy c
 
 module _ (l : ReadyLent) (e : Entries) (b : Bodies) (p : PendingForm l e) (found : BodiesFound l e b) where
   -- it lies at the front of pending memory, and its bytes were found
-  sent-within : sent e b .entries ≤ e .pending
+  pub sent-within : sent e b .entries ≤ e .pending
   unfolding sent
   sent-within = go (eqb (e .frozen) 0)
     where
@@ -108,7 +108,7 @@ module _ (l : ReadyLent) (e : Entries) (b : Bodies) (p : PendingForm l e) (found
       go true = omega arith
       go false = p .frozen-within
 
-  sent-bytes : sent e b .bytes ≡ total (l .lens) (sent e b .entries)
+  pub sent-bytes : sent e b .bytes ≡ total (l .lens) (sent e b .entries)
   unfolding sent
   sent-bytes = go (eqb (e .frozen) 0)
     where
@@ -117,7 +117,7 @@ module _ (l : ReadyLent) (e : Entries) (b : Bodies) (p : PendingForm l e) (found
       go false = found .frozen-is
 
   -- 000's `j`
-  sent-is : ifNone (frozenOf l e) (memoryOf l e) (frozenOf l e) ≡ view (l .bytes) (l .lens) (sent e b .entries)
+  pub sent-is : ifNone (frozenOf l e) (memoryOf l e) (frozenOf l e) ≡ view (l .bytes) (l .lens) (sent e b .entries)
   unfolding sent
   sent-is = by-none (frozenOf l e) (e .frozen) (memoryOf l e) (frozenOf l e) (length-frozen l e p) ∙ go (eqb (e .frozen) 0) refl
     where

@@ -1,0 +1,17 @@
+use Rattle.machine.specs.Laws.Answers.{answered-no, answered-yes}
+use mathlib.Core.Path.{refl}
+use borrow.Author.Needs.{needs}
+use Rattle.machine.proofs.machine.Machine.no_op.Statement.{statement}
+use Rattle.machine.proofs.machine.Machine.no_op.Tie as tie
+
+ask-state-requires : tie.Need-ask-state-requires
+ask-state-requires c κs = search needs
+
+returns : tie.Need-returns
+returns c = answered-no _ _ (c .before .ask-state .ensures) _ _ _ (c .if1 .taken)
+
+returns-2 : tie.Need-returns-2
+returns-2 c = answered-yes _ _ (c .before .ask-state .ensures) _ _ _ _ (c .if1 .left) refl
+
+pub no-op-spec : {M : Type 1} → statement M
+no-op-spec = tie.close (tie.spec ask-state-requires returns returns-2)

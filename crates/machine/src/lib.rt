@@ -1,0 +1,29 @@
+// The commit machine (source 000), whole and alone: it knows no disk, and hands over what it asks of one as a disk operation. Its memory is lent beside it.
+// The public face:
+//   Machine, Kind                     the record: a kind beside the records of the three kinds, and the sync requests
+//   Machine::initial                  000's Init
+//   Machine::ask, Machine::ask_state  questions 1 and 2; what was found in pending memory
+//   the steps, in the order of 000's Step: write_back_journal_req, write_back_journal_resp, write_back_superblock_req_advance_log,
+//   write_back_superblock_req_advance_location, write_back_superblock_resp, page_in_journal_req, page_in_journal_resp,
+//   page_in_superblock_req, page_in_superblock_resp, finish_loading_superblock_phase, finish_loading_other_phase, freeze,
+//   receive_frozen_loc, advance, replay, push_sync_req, pop_sync_req, no_op; and ask_again
+//   MachineStepped, MachineAnswer     what a step answers: the next machine with its disk operation, or the number of a no and the machine as it was
+// Each of these steps asks every question. One named `.._asked` is a part of a step for a caller that has asked questions 1 and 2 itself: it
+// asks the others and decides by value and on shared slices. Lent memory is then altered by functions that ask nothing; an add and the end of
+// loading, after which nothing is asked of a disk, alter it themselves, after their last yes. Every function is total.
+mod commit_steps;
+mod entry_steps;
+mod freeze_steps;
+mod journal_steps;
+mod loading_steps;
+mod machine;
+mod questions;
+mod sync_steps;
+mod whole_loading;
+mod whole_working;
+
+pub use machine::Kind;
+pub use machine::Machine;
+pub use machine::MachineAnswer;
+pub use machine::MachineStepped;
+pub use questions::Asked;

@@ -1,0 +1,316 @@
+// The steps of a machine that loads, after questions 1 and 2; none is a step by itself.
+use super::machine::Kind;
+use super::machine::Machine;
+use super::machine::MachineAnswer;
+use super::machine::MachineStepped;
+use interval::JournalInterval;
+use journal::ask_size;
+use journal::bytes_of;
+use layout::Geometry;
+use loading::Paged;
+use loading::ask_which;
+use reader::Scanned;
+use ready::Ready;
+use superblock::DiskOp;
+use superblock::JournalRead;
+use superblock::SuperblockRead;
+use unpacker::unpack;
+ghost use mathlib.Core.Path.{_≡_};
+ghost use Rattle.laws.specs.Choice.{unless};
+ghost use Rattle.superblock.specs.declared.disk_op.DiskOp.the-variants.{NoDiskOp};
+ghost use Rattle.machine.specs.Machine.{answered};
+ghost use Rattle.machine.specs.Loading.{askPageInJournalReqStep, pageInJournalReqOp, pageInJournalReqMachine, wholePlace, pagedIn, askPiece, pageInJournalRespMachine, askPageInSuperblockReqStep, pageInSuperblockReqOp, pageInSuperblockReqMachine, askPageInSuperblockRespStep, pageInSuperblockRespOp, pageInSuperblockRespMachine, askFinishLoadingSuperblockPhaseStep, finishLoadingSuperblockPhaseMachine, askFinishLoadingOtherPhaseStep, askLoaded, loadedMachine, finishLoadingOtherPhaseMachine, loadedReplayBytes, loadedReplayLens, askAskAgainStep, askAgainMachine};
+
+fn whole_place(read: JournalRead, p: Paged) -> Paged
+    ensures { λ r. ⌜ r ≡ wholePlace read p ⌝ }
+{
+    match read {
+        JournalRead::Whole => p,
+        JournalRead::Damaged => Paged { place: 0, len: 0 },
+    }
+}
+
+// Question 4 of the blocks of an answer: as many as the piece that awaits them has; any where nobody does.
+pub(crate) fn ask_piece(p: Paged, new: &[u8]) -> u8
+    ensures { λ r. ⌜ r ≡ askPiece p (now (new .entry)) ⌝ }
+{
+    if p.len == 0 {
+        return 0;
+    }
+    let v = JournalInterval {
+        start: p.place,
+        len: p.len,
+    };
+    ask_size(v, new)
+}
+
+impl Machine {
+    fn ask_page_in_journal_req(self, g: Geometry, which: u64) -> u8
+        ensures { λ r. ⌜ r ≡ askPageInJournalReqStep g self which ⌝ }
+    {
+        let q = self.ask_loading_other();
+        if q != 0 {
+            return q;
+        }
+        let other = self.other;
+        other.ask_page_in_journal_req(which, g)
+    }
+
+    // PageInJournalReq.
+    pub fn page_in_journal_req_asked(mut self, g: Geometry, which: u64, id: u64) -> MachineStepped
+        ensures { λ r. ⌜ r ≡ answered (askPageInJournalReqStep g self which) (pageInJournalReqOp g self which id) (pageInJournalReqMachine self which id) self ⌝ }
+    {
+        let q = self.ask_page_in_journal_req(g, which);
+        if q != 0 {
+            return MachineStepped {
+                answer: MachineAnswer::Refused(q),
+                machine: self,
+            };
+        }
+        let other = self.other;
+        let interval = other.page_in_journal_req_interval(which, g);
+        let next = other.page_in_journal_req_next(which, id);
+        self.other = next;
+        MachineStepped {
+            answer: MachineAnswer::Next(DiskOp::ReqReadJournal { id, interval }),
+            machine: self,
+        }
+    }
+
+    // PageInJournalResp: where in lent memory the answer's blocks go.
+    pub fn paged_in(self, g: Geometry, id: u64, read: JournalRead) -> Paged
+        ensures { λ r. ⌜ r ≡ pagedIn g self id read ⌝ }
+    {
+        let kind = self.kind;
+        match kind {
+            Kind::LoadingSuperblock => Paged { place: 0, len: 0 },
+            Kind::LoadingOther => {
+                let other = self.other;
+                let p = other.place_of(id, g);
+                whole_place(read, p)
+            },
+            Kind::Ready => Paged { place: 0, len: 0 },
+        }
+    }
+
+    // The machine after it. Whoever calls copies the blocks.
+    pub fn page_in_journal_resp_asked(mut self, id: u64, read: JournalRead) -> Machine
+        ensures { λ r. ⌜ r ≡ pageInJournalRespMachine self id read ⌝ }
+    {
+        let kind = self.kind;
+        match kind {
+            Kind::LoadingSuperblock => self,
+            Kind::LoadingOther => {
+                let other = self.other;
+                let next = other.page_in_journal_resp_next(id, read);
+                self.other = next;
+                self
+            },
+            Kind::Ready => self,
+        }
+    }
+
+    fn ask_page_in_superblock_req(self, which: u64, id: u64) -> u8
+        ensures { λ r. ⌜ r ≡ askPageInSuperblockReqStep self which id ⌝ }
+    {
+        let q = self.ask_loading_superblock();
+        if q != 0 {
+            return q;
+        }
+        let superblocks = self.superblocks;
+        superblocks.ask_page_in_superblock_req(which, id)
+    }
+
+    // PageInSuperblockReq.
+    pub fn page_in_superblock_req_asked(mut self, which: u64, id: u64) -> MachineStepped
+        ensures { λ r. ⌜ r ≡ answered (askPageInSuperblockReqStep self which id) (pageInSuperblockReqOp which id) (pageInSuperblockReqMachine self which id) self ⌝ }
+    {
+        let q = self.ask_page_in_superblock_req(which, id);
+        if q != 0 {
+            return MachineStepped {
+                answer: MachineAnswer::Refused(q),
+                machine: self,
+            };
+        }
+        let superblocks = self.superblocks;
+        let next = superblocks.page_in_superblock_req_next(which, id);
+        self.superblocks = next;
+        MachineStepped {
+            answer: MachineAnswer::Next(DiskOp::ReqReadSuperblock { id, which }),
+            machine: self,
+        }
+    }
+
+    fn superblock_paged_in(
+        mut self,
+        g: Geometry,
+        which: u64,
+        id: u64,
+        read: SuperblockRead,
+    ) -> Machine
+        ensures { λ r. ⌜ r ≡ pageInSuperblockRespMachine g self which id read ⌝ }
+    {
+        let kind = self.kind;
+        match kind {
+            Kind::LoadingSuperblock => {
+                let superblocks = self.superblocks;
+                let next = superblocks.page_in_superblock_resp_next(which, id, read, g);
+                self.superblocks = next;
+                self
+            },
+            Kind::LoadingOther => self,
+            Kind::Ready => self,
+        }
+    }
+
+    // PageInSuperblockResp.
+    pub fn page_in_superblock_resp_asked(
+        self,
+        g: Geometry,
+        which: u64,
+        id: u64,
+        read: SuperblockRead,
+    ) -> MachineStepped
+        ensures { λ r. ⌜ r ≡ answered (askPageInSuperblockRespStep which) (pageInSuperblockRespOp which id read) (pageInSuperblockRespMachine g self which id read) self ⌝ }
+    {
+        let q = ask_which(which);
+        if q != 0 {
+            return MachineStepped {
+                answer: MachineAnswer::Refused(q),
+                machine: self,
+            };
+        }
+        let next = self.superblock_paged_in(g, which, id, read);
+        MachineStepped {
+            answer: MachineAnswer::Next(DiskOp::RespReadSuperblock {
+                id,
+                which,
+                superblock: read,
+            }),
+            machine: next,
+        }
+    }
+
+    fn ask_finish_loading_superblock_phase(self) -> u8
+        ensures { λ r. ⌜ r ≡ askFinishLoadingSuperblockPhaseStep self ⌝ }
+    {
+        let q = self.ask_loading_superblock();
+        if q != 0 {
+            return q;
+        }
+        let superblocks = self.superblocks;
+        superblocks.ask_finish_loading_superblock_phase()
+    }
+
+    // FinishLoadingSuperblockPhase.
+    pub fn finish_loading_superblock_phase_asked(self) -> MachineStepped
+        ensures { λ r. ⌜ r ≡ answered (askFinishLoadingSuperblockPhaseStep self) NoDiskOp (finishLoadingSuperblockPhaseMachine self) self ⌝ }
+    {
+        let q = self.ask_finish_loading_superblock_phase();
+        if q != 0 {
+            return MachineStepped {
+                answer: MachineAnswer::Refused(q),
+                machine: self,
+            };
+        }
+        let superblocks = self.superblocks;
+        let other = self.other;
+        let selected = superblocks.finish_loading_superblock_phase_next(other);
+        let next = self.to_other(selected);
+        MachineStepped {
+            answer: MachineAnswer::Next(DiskOp::NoDiskOp),
+            machine: next,
+        }
+    }
+
+    // FinishLoadingOtherPhase: questions 3 and 6.
+    fn ask_finish_loading_other_phase(self, g: Geometry) -> u8
+        ensures { λ r. ⌜ r ≡ askFinishLoadingOtherPhaseStep g self ⌝ }
+    {
+        let q = self.ask_loading_other();
+        if q != 0 {
+            return q;
+        }
+        let other = self.other;
+        other.ask_finish_loading_other_phase(g)
+    }
+
+    // The machine at work that so many replay entries make of it.
+    fn loaded(self, replay: u64) -> Machine
+        ensures { λ r. ⌜ r ≡ loadedMachine self replay ⌝ }
+    {
+        let other = self.other;
+        let superblock = other.superblock;
+        let ready = Ready::loaded(superblock, other.whichSuperblock, replay);
+        self.to_ready(ready)
+    }
+
+    // The entries of the loaded blocks go to replay memory. Question 7, the last one, is asked as they are unpacked.
+    pub fn finish_loading_other_phase_asked(
+        self,
+        g: Geometry,
+        pieces: &[u8],
+        rbytes: &mut [u8],
+        rlens: &mut [u16],
+    ) -> MachineStepped
+        ensures { λ r. ⌜ r ≡ answered (askLoaded g self (now (pieces .entry)) (now (rbytes .entry)) (now (rlens .entry))) NoDiskOp (finishLoadingOtherPhaseMachine self (now (pieces .entry))) self ⌝ }
+        ensures { λ _. ⌜ now (rbytes .exit) ≡ unless (askLoaded g self (now (pieces .entry)) (now (rbytes .entry)) (now (rlens .entry))) (now (rbytes .entry)) (loadedReplayBytes self (now (pieces .entry)) (now (rbytes .entry))) ⌝ }
+        ensures { λ _. ⌜ now (rlens .exit) ≡ unless (askLoaded g self (now (pieces .entry)) (now (rbytes .entry)) (now (rlens .entry))) (now (rlens .entry)) (loadedReplayLens self (now (pieces .entry)) (now (rlens .entry))) ⌝ }
+    {
+        let q = self.ask_finish_loading_other_phase(g);
+        if q != 0 {
+            return MachineStepped {
+                answer: MachineAnswer::Refused(q),
+                machine: self,
+            };
+        }
+        let other = self.other;
+        let blocks = other.loaded_blocks();
+        let n = bytes_of(blocks, pieces.len());
+        let s = unpack(&pieces[0..n], rbytes, rlens);
+        match s {
+            Scanned::Refused(p) => MachineStepped {
+                answer: MachineAnswer::Refused(p),
+                machine: self,
+            },
+            Scanned::Total { entries, bytes: _ } => {
+                let next = self.loaded(entries);
+                MachineStepped {
+                    answer: MachineAnswer::Next(DiskOp::NoDiskOp),
+                    machine: next,
+                }
+            },
+        }
+    }
+
+    fn ask_ask_again(self, which: u64) -> u8
+        ensures { λ r. ⌜ r ≡ askAskAgainStep self which ⌝ }
+    {
+        let q = self.ask_loading_superblock();
+        if q != 0 {
+            return q;
+        }
+        let superblocks = self.superblocks;
+        superblocks.ask_ask_again(which)
+    }
+
+    // Ask again.
+    pub fn ask_again_asked(mut self, which: u64) -> MachineStepped
+        ensures { λ r. ⌜ r ≡ answered (askAskAgainStep self which) NoDiskOp (askAgainMachine self which) self ⌝ }
+    {
+        let q = self.ask_ask_again(which);
+        if q != 0 {
+            return MachineStepped {
+                answer: MachineAnswer::Refused(q),
+                machine: self,
+            };
+        }
+        let superblocks = self.superblocks;
+        let next = superblocks.ask_again_next(which);
+        self.superblocks = next;
+        MachineStepped {
+            answer: MachineAnswer::Next(DiskOp::NoDiskOp),
+            machine: self,
+        }
+    }
+}

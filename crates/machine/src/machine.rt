@@ -1,0 +1,156 @@
+// The machine's record, and what a step answers.
+use layout::Location;
+use loading::LoadingOther;
+use loading::LoadingSuperblock;
+use loading::Piece;
+use memory::Limits;
+use ready::Ready;
+use superblock::DiskOp;
+use superblock::Superblock;
+use tables::SyncTable;
+ghost use mathlib.Core.Path.{_≡_};
+ghost use Rattle.machine.specs.Machine.{limitsOf, askLoadingSuperblock, askLoadingOther, askReady, toOther, toReady, noSuperblock, nothingLoaded, initialMachine};
+
+pub enum Kind {
+    LoadingSuperblock,
+    LoadingOther,
+    Ready,
+}
+
+// What a kind lacks is no part of the state: the record beside it that is another kind's is not looked at.
+pub struct Machine {
+    pub kind: Kind,
+    pub superblocks: LoadingSuperblock,
+    pub other: LoadingOther,
+    pub ready: Ready,
+    pub sync: SyncTable,
+}
+
+// The next machine's disk operation, or the number of the question that was answered no. The machine beside it is the next one, or the one given.
+pub enum MachineAnswer {
+    Next(DiskOp),
+    Refused(u8),
+}
+
+pub struct MachineStepped {
+    pub answer: MachineAnswer,
+    pub machine: Machine,
+}
+
+fn no_superblock() -> Superblock
+    ensures { λ r. ⌜ r ≡ noSuperblock ⌝ }
+{
+    let loc = Location { addr: 0, len: 0 };
+    Superblock {
+        counter: 0,
+        journalStart: 0,
+        journalLen: 0,
+        indirectionTableLoc: loc,
+    }
+}
+
+fn nothing_loaded() -> LoadingOther
+    ensures { λ r. ⌜ r ≡ nothingLoaded ⌝ }
+{
+    let superblock = no_superblock();
+    LoadingOther {
+        superblock,
+        whichSuperblock: 0,
+        front: Piece::Unread,
+        back: Piece::Unread,
+    }
+}
+
+impl Machine {
+    pub const MOST_SYNC_REQS: usize = 32;
+
+    // 000's Init.
+    pub fn initial() -> Machine
+        ensures { λ r. ⌜ r ≡ initialMachine ⌝ }
+    {
+        let superblocks = LoadingSuperblock::initial();
+        let superblock = no_superblock();
+        let other = nothing_loaded();
+        let ready = Ready::loaded(superblock, 0, 0);
+        let sync = SyncTable::empty();
+        Machine {
+            kind: Kind::LoadingSuperblock,
+            superblocks,
+            other,
+            ready,
+            sync,
+        }
+    }
+
+    // How much pending memory holds.
+    pub(crate) fn limits(self) -> Limits
+        ensures { λ r. ⌜ r ≡ limitsOf self ⌝ }
+    {
+        Limits::store()
+    }
+
+    // Question 3 of a step that names a kind.
+    pub(crate) fn ask_loading_superblock(self) -> u8
+        ensures { λ r. ⌜ r ≡ askLoadingSuperblock self ⌝ }
+    {
+        let kind = self.kind;
+        match kind {
+            Kind::LoadingSuperblock => 0,
+            Kind::LoadingOther => 3,
+            Kind::Ready => 3,
+        }
+    }
+
+    pub(crate) fn ask_loading_other(self) -> u8
+        ensures { λ r. ⌜ r ≡ askLoadingOther self ⌝ }
+    {
+        let kind = self.kind;
+        match kind {
+            Kind::LoadingSuperblock => 3,
+            Kind::LoadingOther => 0,
+            Kind::Ready => 3,
+        }
+    }
+
+    pub(crate) fn ask_ready(self) -> u8
+        ensures { λ r. ⌜ r ≡ askReady self ⌝ }
+    {
+        let kind = self.kind;
+        match kind {
+            Kind::LoadingSuperblock => 3,
+            Kind::LoadingOther => 3,
+            Kind::Ready => 0,
+        }
+    }
+
+    // A step into another kind.
+    pub(crate) fn to_other(self, other: LoadingOther) -> Machine
+        ensures { λ r. ⌜ r ≡ toOther self other ⌝ }
+    {
+        let superblocks = self.superblocks;
+        let ready = self.ready;
+        let sync = self.sync;
+        Machine {
+            kind: Kind::LoadingOther,
+            superblocks,
+            other,
+            ready,
+            sync,
+        }
+    }
+
+    pub(crate) fn to_ready(self, ready: Ready) -> Machine
+        ensures { λ r. ⌜ r ≡ toReady self ready ⌝ }
+    {
+        let superblocks = self.superblocks;
+        let other = self.other;
+        let sync = self.sync;
+        Machine {
+            kind: Kind::Ready,
+            superblocks,
+            other,
+            ready,
+            sync,
+        }
+    }
+}
