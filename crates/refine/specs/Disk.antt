@@ -1,4 +1,5 @@
--- The disk (crate disk) against source 001: the view, question 2 both ways, and each operation sound, complete and refused.
+-- The disk (crates disk and crash) against source 001: the view, question 2 both ways, and each operation and the crash sound, complete and
+-- refused.
 pub mod View
 pub mod Meets
 pub mod Calls
@@ -7,4 +8,6 @@ pub mod JournalReads
 pub mod SuperblockWrites
 pub mod JournalWrites
 pub mod Step
+pub mod Picture
+pub mod Crash
 pub mod Bounds

@@ -1,2 +1,3 @@
 pub mod Disk
 pub mod Machine
+pub mod Store

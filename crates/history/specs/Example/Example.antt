@@ -33,7 +33,7 @@ use Rattle.history.specs.Loads.Comes.{loadCalls, taken}
 use Rattle.history.specs.Simulation.Relation.{superOf}
 use Rattle.history.specs.Loads.Superblocks.{resting, limits-room}
 use Rattle.codec.specs.Codec.{Sized}
-use Rattle.history.specs.Loads.Loads.{crash-loads}
+use Rattle.history.specs.Loads.Loads.{crash-loads-from}
 use Rattle.history.specs.Example.Setting.{g, table1, table2, sb0, first, init, init-super, small, large, one-block, two-blocks}
 use Rattle.history.specs.Example.Walk.{Walk, there, _then_, _refused-then_, walked}
 use Rattle.history.specs.Example.Morning.{d1, d2, d3, d4, d5, d6, d7, d8, d9}
@@ -164,24 +164,25 @@ two-pieces : loadCalls g sb2 ≡ evening
 unfolding evening JournalFrontInterval JournalBackInterval
 two-pieces = refl
 
--- the day, loaded: the machine at Ready shows what the ledger tells
-pub example : (r : M.ReadyVariables) × Loaded g format limits first day answers evening (taken evening) r × (shows r ≡ told)
+calls-are : loadCalls g (superOf format (kept (SuperblockOfDisk g (first .disk) (init .wf)))) ≡ evening
+calls-are = ap (λ (v : Superblock). loadCalls g (superOf format (kept v))) init-super ∙ ap (loadCalls g) kept-is ∙ two-pieces
+
+-- the day, loaded
+pub example-loads : (r : M.ReadyVariables) × (h : Loaded g format limits first day answers evening (taken evening) r) × (h .before ≡ s29)
+example-loads =
+    subst (λ (xs : List Call). (r : M.ReadyVariables) × (h : Loaded g format limits first day answers xs (taken xs) r) × (h .before ≡ s29)) calls-are
+    (crash-loads-from g format limits limits-room first table1 init day answers s29 s30 (walked walk) crashed j5-sized)
+
+-- the machine at Ready shows what the ledger tells
+pub example-shows : shows (example-loads .0) ≡ told
 unfolding books tell
-example = (up .0, up .1, shown-is)
-  where
-    calls-are : loadCalls g (superOf format (kept (SuperblockOfDisk g (first .disk) (init .wf)))) ≡ evening
-    calls-are = ap (λ (v : Superblock). loadCalls g (superOf format (kept v))) init-super ∙ ap (loadCalls g) kept-is ∙ two-pieces
+example-shows =
+    demand-3 g first table1 init day answers evening (taken evening) (example-loads .0) day answers evening (taken evening) (example-loads .0) (example-loads .1) (example-loads .1) .first-shows
+    ∙ ap (shown format)
+    (books-append g format limits (begin (SuperblockOfDisk g (first .disk) (init .wf))) first s29 day answers (crash ∷ evening) (true ∷ taken evening) (walked walk)
+    ∙ books-loads g format limits (fresh (kept (SuperblockOfDisk g (first .disk) (init .wf)))) evening (taken evening) (example-loads .1 .only-loads))
+    ∙ ap (λ (v : Superblock). shown format (fresh (kept v))) init-super
+    ∙ told-is
 
-    up : (r : M.ReadyVariables) × Loaded g format limits first day answers evening (taken evening) r
-    up =
-        subst (λ (xs : List Call). (r : M.ReadyVariables) × Loaded g format limits first day answers xs (taken xs) r) calls-are
-        (crash-loads g format limits limits-room first table1 init day answers s29 s30 (walked walk) crashed j5-sized)
-
-    shown-is : shows (up .0) ≡ told
-    shown-is =
-        demand-3 g first table1 init day answers evening (taken evening) (up .0) day answers evening (taken evening) (up .0) (up .1) (up .1) .first-shows
-        ∙ ap (shown format)
-        (books-append g format limits (begin (SuperblockOfDisk g (first .disk) (init .wf))) first s29 day answers (crash ∷ evening) (true ∷ taken evening) (walked walk)
-        ∙ books-loads g format limits (fresh (kept (SuperblockOfDisk g (first .disk) (init .wf)))) evening (taken evening) (up .1 .only-loads))
-        ∙ ap (λ (v : Superblock). shown format (fresh (kept v))) init-super
-        ∙ told-is
+pub example : (r : M.ReadyVariables) × Loaded g format limits first day answers evening (taken evening) r × (shows r ≡ told)
+example = (example-loads .0, example-loads .1, example-shows)

@@ -253,13 +253,13 @@ crash-rests g C L s t e tied-crash a =
           };
     }
 
--- so every history that ends with a crash that is taken can be loaded
-pub crash-loads : (g : Geometry) (C : Codec) (L : Limits) → Room L → (first : Y.Variables) (loc : Location) (i : Y.Init g first loc) (calls : List Call) (answers : List Bool) (before after : Y.Variables)
+-- so every history that ends with a crash that is taken can be loaded, from the very state before it
+pub crash-loads-from : (g : Geometry) (C : Codec) (L : Limits) → Room L → (first : Y.Variables) (loc : Location) (i : Y.Init g first loc) (calls : List Call) (answers : List Bool) (before after : Y.Variables)
     → Trace g C L first calls answers before → Takes g C L before after crash → Sized (after .disk .journal)
     → let v = superOf C (books g C (begin (SuperblockOfDisk g (first .disk) (i .wf))) calls answers .kept) in
-    (r : M.ReadyVariables) × Loaded g C L first calls answers (loadCalls g v) (taken (loadCalls g v)) r
+    (r : M.ReadyVariables) × (h : Loaded g C L first calls answers (loadCalls g v) (taken (loadCalls g v)) r) × (h .before ≡ before)
 unfolding tell
-crash-loads g C L room first loc i calls answers before after ran crashed sized = (
+crash-loads-from g C L room first loc i calls answers before after ran crashed sized = (
   readyBy (shown C l) (z .slot),
   record {
     before = before;
@@ -271,6 +271,7 @@ crash-loads g C L room first loc i calls answers before after ran crashed sized 
     only-loads = comes-loads up;
     ready = refl;
   },
+  refl,
 )
   where
     p : ℕ
@@ -307,3 +308,10 @@ crash-loads g C L room first loc i calls answers before after ran crashed sized 
 
     up : Comes g C L rest xs ready
     up = comes-up g C L room p slots j l z sized
+
+pub crash-loads : (g : Geometry) (C : Codec) (L : Limits) → Room L → (first : Y.Variables) (loc : Location) (i : Y.Init g first loc) (calls : List Call) (answers : List Bool) (before after : Y.Variables)
+    → Trace g C L first calls answers before → Takes g C L before after crash → Sized (after .disk .journal)
+    → let v = superOf C (books g C (begin (SuperblockOfDisk g (first .disk) (i .wf))) calls answers .kept) in
+    (r : M.ReadyVariables) × Loaded g C L first calls answers (loadCalls g v) (taken (loadCalls g v)) r
+crash-loads g C L room first loc i calls answers before after ran crashed sized =
+    let k = crash-loads-from g C L room first loc i calls answers before after ran crashed sized in (k .0, k .1)

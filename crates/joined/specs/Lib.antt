@@ -1,0 +1,5 @@
+pub mod Awaited
+pub mod Held
+pub mod Apart
+pub mod Joined
+pub mod Laws

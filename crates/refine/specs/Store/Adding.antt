@@ -1,0 +1,84 @@
+-- Advance: the entries that the caller brings join pending memory. They are there, so that the call is no nonsense.
+use Prim.Native.Nat.{ℕ}
+use mathlib.Core.Bool.{Bool, cond}
+use mathlib.Core.Path.{_≡_, refl, sym, _∙_, ap, subst}
+use mathlib.Core.List.{List}
+use lib.Dec.{leb}
+use lib.ListN.{length}
+use borrow.Author.Tests.{le-leb}
+use Rattle.laws.specs.Choice.{also-both, andThen, andThen-left, andThen-right, unless-done}
+use Rattle.layout.specs.declared.geometry.Geometry.{Geometry}
+use Rattle.superblock.specs.declared.disk_op.DiskOp.{DiskOp}
+use Rattle.superblock.specs.declared.disk_op.DiskOp.the-variants as op
+use Rattle.range.specs.Memory.{view, total}
+use Rattle.codec.specs.Format.{format}
+use Rattle.memory.specs.Answer.{refusal-counted}
+use Rattle.memory.specs.Given.{memory, countOf, askGiven}
+use Rattle.ready.specs.declared.entries.Bodies.{Bodies}
+use Rattle.source.specs.JournalDisk as D
+use Rattle.source.specs.JournalCache.{AdvanceStep}
+use Rattle.source.specs.Limits.{limits}
+use Rattle.source.specs.Departures.{Source, MachineStep}
+use Rattle.history.specs.Ledger as ledger
+use Rattle.history.specs.Ledger.{Call}
+use Rattle.history.specs.Statement.{Takes, Tied, tied-add}
+use Rattle.machine.specs.Questions.{bodiesOf}
+use Rattle.machine.specs.Working.{givenOf, askAdvanceStep, advanceMachine, appendedBytes, appendedLens}
+use Rattle.store.specs.declared.store.Store.{Store}
+use Rattle.store.specs.declared.store.StoreAnswer.the-variants as answer
+use Rattle.store.specs.declared.calls.Step.the-variants as step
+use Rattle.store.specs.Store.{store}
+use Rattle.store.specs.Lent.{Lent, Given, machineLent, askStore}
+use Rattle.store.specs.Steps.{askBoth, both, add}
+use Rattle.store.specs.Step.{withPending, addedLent}
+use Rattle.refine.specs.Machine.ReadyForm as form
+use Rattle.refine.specs.Machine.MachineEntries.{asked-entries, advance-clauses}
+use Rattle.refine.specs.Store.Seen.{seen, SizedStore, store-met, callOf, entriesCall}
+use Rattle.refine.specs.Store.Taken.{answered-takes, machine-takes}
+
+-- entries that are there make the call
+pub entries-call : (brought sizes : List ℕ) (k : ℕ) (x : Call) → form.Given brought sizes k → entriesCall brought sizes k x ≡ x
+entries-call brought sizes k x h =
+    ap (λ (b : Bool). cond b x ledger.nonsense)
+    (also-both (leb k (length sizes)) (leb (total sizes k) (length brought)) (le-leb k (length sizes) (h .there)) (le-leb (total sizes k) (length brought) (h .fit)))
+
+module _ (g : Geometry) (l : Lent) (v : Given) (s : Store) (k : ℕ) where
+  abbrev b : Bodies
+  b = bodiesOf (l .lens) (s .machine)
+
+  abbrev q : ℕ
+  q = askAdvanceStep (s .machine) b (givenOf (v .brought) (v .sizes) k)
+
+  -- lent memory with the new entries
+  abbrev after : Lent
+  after =
+      withPending l (appendedBytes b (countOf (memory (v .brought) (v .sizes) k)) (v .brought) (l .bytes))
+      (appendedLens (s .machine) (countOf (memory (v .brought) (v .sizes) k)) (v .sizes) (l .lens))
+
+  lent-added : q ≡ 0 → addedLent l v s k q b ≡ after
+  lent-added e = λ i. withPending l (unless-done q (l .bytes) (after .bytes) e i) (unless-done q (l .lens) (after .lens) e i)
+
+  given-there : q ≡ 0 → form.Given (v .brought) (v .sizes) k
+  unfolding askAdvanceStep
+  given-there e =
+      asked-entries (v .brought) (v .sizes) k
+      (sym (refusal-counted (askGiven (memory (v .brought) (v .sizes) k)) (countOf (memory (v .brought) (v .sizes) k))) ∙ andThen-left _ _ (andThen-right _ _ e))
+
+  add-tied : q ≡ 0 → Tied (callOf v (step.Advance k)) (MachineStep D.NoDiskOp (Source (AdvanceStep (view (v .brought) (v .sizes) k))))
+  add-tied e =
+      subst (λ (x : Call). Tied x (MachineStep D.NoDiskOp (Source (AdvanceStep (view (v .brought) (v .sizes) k)))))
+      (sym (entries-call (v .brought) (v .sizes) k (ledger.add (view (v .brought) (v .sizes) k)) (given-there e))) tied-add
+
+  pub add-takes : (z : SizedStore s) → askStore g l s ≡ 0 → (o : DiskOp) → add g s b (v .brought) (v .sizes) k .answer ≡ answer.Next o
+      → Takes g format limits (seen g l s) (seen g (addedLent l v s k q b) (add g s b (v .brought) (v .sizes) k .store)) (callOf v (step.Advance k))
+  unfolding both askBoth
+  add-takes z e o a =
+      let m = store-met g l s z e in
+      let next : Store = store (advanceMachine (s .machine) b (givenOf (v .brought) (v .sizes) k)) (s .disk) in
+      answered-takes g l s (andThen q 0) op.NoDiskOp next (addedLent l v s k q b) after (callOf v (step.Advance k)) o a
+      (λ h. lent-added (andThen-left q 0 h))
+      (λ h.
+      let h0 = andThen-left q 0 h in
+      machine-takes g l s z m (seen g after next) (callOf v (step.Advance k)) D.NoDiskOp (Source (AdvanceStep (view (v .brought) (v .sizes) k))) (add-tied h0)
+      (advance-clauses g (machineLent l) (s .machine) (v .brought) (v .sizes) k (m .machine) h0)
+      (record { next = refl }))

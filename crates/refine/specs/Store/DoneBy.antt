@@ -1,0 +1,41 @@
+-- What is alike in the calls that take an allowed step: questions 1 and 2 are answered yes, the step's own number is 0, and the next store over the
+-- lent memory that it leaves is seen as the next state.
+use Prim.Native.Nat.{ℕ}
+use mathlib.Core.Path.{_≡_, sym, _∙_, ap, subst}
+use Rattle.laws.specs.Choice.{andThen-both, asked-yes, unless-done}
+use Rattle.layout.specs.declared.geometry.Geometry.{Geometry}
+use Rattle.superblock.specs.declared.disk_op.DiskOp.{DiskOp}
+use Rattle.source.specs.JournalDisk as D
+use Rattle.source.specs.JournalSystem as Y
+use Rattle.source.specs.Limits.{limits}
+use Rattle.source.specs.Meets.{SystemMeets}
+use Rattle.source.specs.Departures.{Event}
+use Rattle.history.specs.Statement.{Tied}
+use Rattle.store.specs.declared.store.Store.{Store}
+use Rattle.store.specs.declared.store.StoreStepped.{StoreStepped}
+use Rattle.store.specs.declared.calls.Step.{Step}
+use Rattle.store.specs.Store.{refused, accepted, answered}
+use Rattle.store.specs.Lent.{Lent, Given}
+use Rattle.store.specs.Step.{stepAnswer, stepLent, askPicture, askStep, stepped, steppedLent}
+use Rattle.store.specs.Laws.Answers.{asked-next}
+use Rattle.refine.specs.Store.Seen.{seen, SizedStore, callOf}
+use Rattle.refine.specs.Store.Done.{StoreForm, form-asks, Done}
+
+module _ (g : Geometry) (l : Lent) (s : Store) (z : SizedStore s) (f : StoreForm g l s) (m : SystemMeets g limits (seen g l s)) where
+  module _ (t : Y.Variables) (event : Event) (x : Step) (v : Given) (op : DiskOp) (next : Store) (after : Lent) (tied : Tied (callOf v x) event) where
+    pub done-by : askPicture g (v .picture) (v .pictured) x ≡ 0 → stepAnswer g l v s x ≡ accepted op next → stepLent g l v s x ≡ after → seen g after next ≡ t → Done g l s t event
+    unfolding askStep stepped steppedLent
+    done-by p a b e =
+        let q : askStep g l v s x ≡ 0 = andThen-both _ _ p (form-asks g l s z f m) in
+        let r : stepped g l v s x ≡ accepted op next = asked-yes (askStep g l v s x) (stepAnswer g l v s x) (refused s (askStep g l v s x)) q ∙ a in
+        let k : steppedLent g l v s x ≡ after = unless-done (askStep g l v s x) l (stepLent g l v s x) q ∙ b in
+        record { call = x; given = v; op = op; tied = tied; taken = ap (λ (y : StoreStepped). y .answer) r; next = (λ i. seen g (k i) (r i .store)) ∙ e }
+
+    -- where one number decides
+    pub done-asked : askPicture g (v .picture) (v .pictured) x ≡ 0 → (q : ℕ) → q ≡ 0 → stepAnswer g l v s x ≡ answered q op next s → stepLent g l v s x ≡ after → seen g after next ≡ t
+        → Done g l s t event
+    done-asked p q h a b e = done-by p (a ∙ asked-next q op next s h) b e
+
+-- a step that asks nothing of the disk leaves it
+pub disk-same : (g : Geometry) (d d′ : D.Variables) (dop : D.DiskOp) → dop ≡ D.NoDiskOp → D.Next g d d′ dop → d ≡ d′
+disk-same g d d′ dop e h = sym (subst (D.Next g d d′) e h .next)

@@ -1,0 +1,138 @@
+-- Demand 3 of the code: the store of crate store, by the definitions that its promises cite, as one of history's stores. Lent memory is part of the
+-- state; a call is a step with what is given beside it; every call gets state and memory as the last one left them.
+use Prim.Native.Nat.{ℕ, _≤_}
+use mathlib.Core.Bool.{Bool, true, false}
+use mathlib.Core.Logic.{_↔_}
+use mathlib.Core.Path.{_≡_, refl, sym, _∙_, ap, subst}
+use mathlib.Core.List.{List, map}
+use Rattle.laws.specs.Choice.{ruin}
+use Rattle.layout.specs.declared.geometry.Geometry.{Geometry}
+use Rattle.layout.specs.declared.location.Location.{Location}
+use Rattle.superblock.specs.declared.disk_op.DiskOp.{DiskOp}
+use Rattle.codec.specs.Format.{format}
+use Rattle.source.specs.JournalSystem as Y
+use Rattle.source.specs.JournalCache as M
+use Rattle.source.specs.Limits.{limits}
+use Rattle.history.specs.Ledger.{Shown, shown}
+use Rattle.history.specs.Statement as history
+use Rattle.history.specs.Statement.{Takes, LoadedStore, Tells, ledgerOf, shows}
+use Rattle.history.specs.Demand.{two-stores}
+use Rattle.machine.specs.declared.machine.Kind.{Kind}
+use Rattle.machine.specs.declared.machine.Kind.the-variants as kind
+use Rattle.machine.specs.Machine.{byKind}
+use Rattle.store.specs.declared.store.Store.{Store}
+use Rattle.store.specs.declared.store.StoreAnswer.{StoreAnswer}
+use Rattle.store.specs.declared.store.StoreAnswer.the-variants as answer
+use Rattle.store.specs.declared.calls.Step.{Step}
+use Rattle.store.specs.Lent.{Lent, Given, machineLent}
+use Rattle.store.specs.Step.{stepped, steppedLent}
+use Rattle.refine.specs.Machine.ReadyView.{readyOf, replayOf}
+use Rattle.refine.specs.Machine.MachineView.{readyLent, syncsOf, machineOf}
+use Rattle.refine.specs.Store.Seen.{seen, SizedStore, callOf}
+use Rattle.refine.specs.Store.Sound.{store-takes, store-refused}
+use Rattle.refine.specs.Store.Equal.{SameReady, same-seen, seen-same}
+
+-- the store and what is lent to it; that its arrays have their lengths is the type's
+pub record State : Type 0 where
+  pub store : Store
+  pub lent : Lent
+  pub sized : SizedStore store
+
+-- a call as it is made
+pub record Made : Type 0 where
+  pub step : Step
+  pub given : Given
+
+abbrev pub isTaken : StoreAnswer → Bool
+isTaken (answer.Next op) = true
+isTaken (answer.Refused q) = false
+
+-- what the code's promises say of a call: the next store, all lent memory, and whether it was taken
+pub record Promise (g : Geometry) (s : State) (x : Made) (taken : Bool) (t : State) : Type 0 where
+  pub store-is : t .store ≡ stepped g (s .lent) (x .given) (s .store) (x .step) .store
+  pub lent-is : t .lent ≡ steppedLent g (s .lent) (x .given) (s .store) (x .step)
+  pub taken-is : taken ≡ isTaken (stepped g (s .lent) (x .given) (s .store) (x .step) .answer)
+
+abbrev pub stateSeen : Geometry → State → Y.Variables
+stateSeen g s = seen g (s .lent) (s .store)
+
+pub taken-next : (a : StoreAnswer) → true ≡ isTaken a → (op : DiskOp) × (a ≡ answer.Next op)
+taken-next (answer.Next op) e = (op, refl)
+taken-next (answer.Refused q) e = ruin (cc)
+
+pub refused-number : (a : StoreAnswer) → false ≡ isTaken a → (n : ℕ) × (a ≡ answer.Refused n)
+refused-number (answer.Next op) e = ruin (cc)
+refused-number (answer.Refused q) e = (q, refl)
+
+-- the code's store as a store of the history
+abbrev pub codeStore : (g : Geometry) → history.Store g format limits
+codeStore g =
+    record {
+      State = State;
+      Made = Made;
+      Promise = Promise g;
+      view = stateSeen g;
+      call = λ x. callOf (x .given) (x .step);
+      sound = λ s x t p.
+          let a = taken-next (stepped g (s .lent) (x .given) (s .store) (x .step) .answer) (p .taken-is) in
+          subst (λ (u : Lent × Store). Takes g format limits (stateSeen g s) (seen g (u .0) (u .1)) (callOf (x .given) (x .step)))
+          (λ i. (sym (p .lent-is) i, sym (p .store-is) i))
+          (store-takes g (s .lent) (x .given) (s .store) (s .sized) (x .step) (a .0) (a .1));
+      refused = λ s x t p.
+          let a = refused-number (stepped g (s .lent) (x .given) (s .store) (x .step) .answer) (p .taken-is) in
+          let k = store-refused g (s .lent) (x .given) (s .store) (x .step) (a .0) (a .1) in
+          (λ i. seen g ((p .lent-is ∙ k .1) i) ((p .store-is ∙ k .0) i));
+    }
+
+-- the machine at work of a state, as it is seen
+abbrev pub readySeen : State → M.ReadyVariables
+readySeen s = readyOf (readyLent (machineLent (s .lent))) (syncsOf (s .store .machine)) (s .store .machine .ready)
+
+-- two machines at Ready are equal, by the code's own records and lent memory
+abbrev pub SameLoaded : State → State → Type 0
+SameLoaded s t =
+    SameReady
+    (readyLent (machineLent (s .lent))) (syncsOf (s .store .machine)) (s .store .machine .ready)
+    (readyLent (machineLent (t .lent))) (syncsOf (t .store .machine)) (t .store .machine .ready)
+
+ready-at : (k : Kind) (a : M.LoadingSuperblockVariables) (b : M.LoadingOtherVariables) (c r : M.ReadyVariables)
+    → byKind k (M.Variables.LoadingSuperblock a) (M.Variables.LoadingOther b) (M.Variables.Ready c) ≡ M.Variables.Ready r → (k ≡ kind.Ready) × (c ≡ r)
+ready-at kind.LoadingSuperblock a b c r e = ruin (cc)
+ready-at kind.LoadingOther a b c r e = ruin (cc)
+ready-at kind.Ready a b c r e = (refl, cc)
+
+-- what a loaded store shows: its machine is at Ready, and seen as r
+pub loaded-ready : (g : Geometry) (s : State) (r : M.ReadyVariables) → stateSeen g s .machine ≡ M.Variables.Ready r → (s .store .machine .kind ≡ kind.Ready) × (readySeen s ≡ r)
+loaded-ready g s r e = ready-at (s .store .machine .kind) _ _ (readySeen s) r e
+
+-- Demand 3. For every geometry, first disk that meets `Init`, and any two lists of calls with their answers, each followed by a crash that is taken
+-- and a load: the machines at Ready, with their replay entries, are equal exactly when the ledgers are, and each shows its own ledger.
+pub record Demand3 (s t : State) (v u : Shown) : Type 0 where
+  pub first-ready : s .store .machine .kind ≡ kind.Ready
+  pub second-ready : t .store .machine .kind ≡ kind.Ready
+  pub equal : SameLoaded s t ↔ (v ≡ u)
+  pub first-shows : shows (readySeen s) ≡ v
+  pub second-shows : shows (readySeen t) ≡ u
+
+pub code-demand-3 : (g : Geometry) (first : Y.Variables) (loc : Location) (i : Y.Init g first loc)
+    (s : State) (calls : List Made) (answers : List Bool) (crashing : Made) (loading : List Made) (loaded : List Bool) (r : M.ReadyVariables)
+    (s′ : State) (calls′ : List Made) (answers′ : List Bool) (crashing′ : Made) (loading′ : List Made) (loaded′ : List Bool) (q : M.ReadyVariables)
+    → (h : LoadedStore (codeStore g) first s calls answers crashing loading loaded r)
+    → (k : LoadedStore (codeStore g) first s′ calls′ answers′ crashing′ loading′ loaded′ q)
+    → Demand3 (h .end) (k .end)
+    (shown format (ledgerOf g format first loc i (map (codeStore g .call) calls) answers (map (codeStore g .call) loading) loaded))
+    (shown format (ledgerOf g format first loc i (map (codeStore g .call) calls′) answers′ (map (codeStore g .call) loading′) loaded′))
+code-demand-3 g first loc i s calls answers crashing loading loaded r s′ calls′ answers′ crashing′ loading′ loaded′ q h k =
+    let t = two-stores g (codeStore g) (codeStore g) first loc i s calls answers crashing loading loaded r s′ calls′ answers′ crashing′ loading′ loaded′ q h k in
+    let a = loaded-ready g (h .end) r (h .ready) in
+    let b = loaded-ready g (k .end) q (k .ready) in
+    record {
+      first-ready = a .0;
+      second-ready = b .0;
+      equal = (
+        (λ same. t .equal .0 (sym (a .1) ∙ same-seen _ _ _ _ _ _ same ∙ b .1)),
+        (λ ledgers. seen-same _ _ _ _ _ _ (a .1 ∙ t .equal .1 ledgers ∙ sym (b .1))),
+      );
+      first-shows = ap shows (a .1) ∙ t .first-shows;
+      second-shows = ap shows (b .1) ∙ t .second-shows;
+    }

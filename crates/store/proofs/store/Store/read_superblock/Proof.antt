@@ -1,0 +1,19 @@
+use Rattle.store.specs.Laws.Answers.{both-is}
+use mathlib.Core.Path.{refl, sym, _∙_, ap}
+use Rattle.store.specs.Steps.{bothBy}
+use borrow.Author.Needs.{needs}
+use Rattle.store.proofs.store.Store.read_superblock.Statement.{statement}
+use Rattle.store.proofs.store.Store.read_superblock.Tie as tie
+
+page-in-superblock-req-asked-requires : tie.Need-page-in-superblock-req-asked-requires
+page-in-superblock-req-asked-requires c κs = search needs
+
+both-requires : tie.Need-both-requires
+both-requires c κs = search needs
+
+returns : tie.Need-returns
+returns c = c .both .ensures ∙ ap (bothBy _ _) (c .before .page-in-superblock-req-asked .ensures) ∙ both-is _ _ _ _ _ _
+
+pub read-superblock-spec : {M : Type 1} → statement M
+read-superblock-spec =
+    tie.close (tie.spec page-in-superblock-req-asked-requires both-requires returns)

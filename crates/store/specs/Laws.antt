@@ -1,0 +1,3 @@
+-- Laws of the store's definitions: what a reader of them need not read, and what the crates above cite.
+pub mod Answers
+pub mod Memory

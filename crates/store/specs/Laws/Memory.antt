@@ -1,0 +1,214 @@
+-- The steps that alter lent memory, the steps whose operation comes from the disk's own content, and the step over all calls. The code's proofs
+-- cite them.
+use Prim.Native.Nat.{ℕ}
+use mathlib.Core.Bool.{Bool, true, false, cond}
+use mathlib.Core.Path.{_≡_, refl, sym, _∙_, ap}
+use mathlib.Core.List.{List}
+use lib.Dec.{eqb}
+use lib.ListN.{take, drop}
+use Rattle.laws.specs.Choice.{andThen, andThen-first, andThen-done, unless, unless-kept, unless-done, asked-yes, asked-no}
+use Rattle.laws.specs.Splice.{splice}
+use Rattle.layout.specs.declared.geometry.Geometry.{Geometry}
+use Rattle.interval.specs.declared.interval.JournalInterval.{JournalInterval}
+use Rattle.superblock.specs.declared.disk_op.MaybeId.{MaybeId}
+use Rattle.superblock.specs.declared.disk_op.SuperblockRead.{SuperblockRead}
+use Rattle.superblock.specs.declared.disk_op.JournalRead.{JournalRead}
+use Rattle.superblock.specs.declared.disk_op.DiskOp.{DiskOp}
+use Rattle.superblock.specs.declared.disk_op.DiskOp.the-variants as op
+use Rattle.journal.specs.Memory.{updateMarks, copyBlocks}
+use Rattle.memory.specs.declared.count.Count.{Count}
+use Rattle.writer.specs.Ring.{putRange}
+use Rattle.loading.specs.declared.other.Paged.{Paged}
+use Rattle.ready.specs.declared.entries.Bodies.{Bodies}
+use Rattle.machine.specs.declared.machine.Machine.{Machine}
+use Rattle.machine.specs.declared.questions.Asked.{Asked}
+use Rattle.machine.specs.declared.questions.Asked.the-variants as asked
+use Rattle.machine.specs.Questions.{bodiesOf, found}
+use Rattle.machine.specs.Loading.{pagedIn, pageInJournalRespOp, pageInJournalRespMachine, askPageInSuperblockRespStep, pageInSuperblockRespOp, pageInSuperblockRespMachine}
+use Rattle.machine.specs.Working.{sentOf, leftOf, movedBytes, movedLens, writeBackJournalRespOp, writeBackJournalRespMachine, askWriteBackSuperblockRespStep, writeBackSuperblockRespOp, writeBackSuperblockRespMachine}
+use Rattle.machine.specs.Laws.Found.{refused-found, held-found}
+use Rattle.disk.specs.declared.disk.Disk.{Disk}
+use Rattle.disk.specs.declared.disk.DiskStepped.{DiskStepped}
+use Rattle.disk.specs.declared.disk.DiskAnswer.the-variants as disk
+use Rattle.disk.specs.declared.disk.JournalAcked.{JournalAcked}
+use Rattle.disk.specs.declared.disk.JournalAnswer.the-variants as journalAnswer
+use Rattle.disk.specs.Disk as D
+use Rattle.disk.specs.Slots.{slotOf}
+use Rattle.disk.specs.Acknowledge.{heldInterval, askAckReadJournal, ackReadJournalNext, journalAnswered}
+use Rattle.disk.specs.Landing.{askLand, landNext}
+use Rattle.disk.specs.Laws.Answers.{done-asked, asked-done, refused-asked, asked-refused, journal-refused, journal-read, asked-journal-read, journal-same}
+use Rattle.store.specs.declared.store.Store.{Store}
+use Rattle.store.specs.declared.store.StoreAnswer.the-variants as answer
+use Rattle.store.specs.declared.store.StoreStepped.{StoreStepped}
+use Rattle.store.specs.declared.calls.Step.{Step}
+use Rattle.store.specs.Store.{store, refused, accepted, answered}
+use Rattle.store.specs.Lent.{Lent, lent, Given, askStore}
+use Rattle.store.specs.Steps.{both, askBoth, askWriteJournal, writeOp, writeJournal, writtenInterval, writtenBlocks, writtenMarks, intervalOf, journalWritten, superblockWritten, readOf, askJournalRead, journalRead, readPieces, contentOf, superblockRead, land}
+use Rattle.store.specs.Step.{askPicture, askStep, stepAnswerWith, stepLentWith, stepAnswer, stepLent, stepped, steppedLent}
+use Rattle.store.specs.Laws.Answers as answers
+
+-- lent memory after a step that has answered
+module _ (q : ℕ) (op : DiskOp) (next s : Store) (r : StoreStepped) (e : r ≡ answered q op next s) where
+  pub answer-no : (n : ℕ) → r .answer ≡ answer.Refused n → q ≡ 0 → ⊥
+  answer-no n h = answers.refused-asked q op next s n (sym (ap (λ (x : StoreStepped). x .answer) e) ∙ h)
+
+  pub answer-yes : (o : DiskOp) → r .answer ≡ answer.Next o → (q ≡ 0) × (o ≡ op)
+  answer-yes o h = answers.next-asked q op next s o (sym (ap (λ (x : StoreStepped). x .answer) e) ∙ h)
+
+  pub answer-kept : (n : ℕ) (old new : List ℕ) → r .answer ≡ answer.Refused n → old ≡ unless q old new
+  answer-kept n old new h = sym (unless-kept q old new (answer-no n h))
+
+  pub answer-changed : (o : DiskOp) (x old new : List ℕ) → r .answer ≡ answer.Next o → x ≡ new → x ≡ unless q old new
+  answer-changed o x old new h p = p ∙ sym (unless-done q old new (answer-yes o h .0))
+
+-- a journal write
+module _ (g : Geometry) (s : Store) (id1 : ℕ) (id2 : MaybeId) (b : Bodies) (r : StoreStepped) (e : r ≡ writeJournal g s id1 id2 b) (bytes lens blocks marks : List ℕ) where
+  abbrev Written : List ℕ → List ℕ → List ℕ → List ℕ → Type 0
+  Written x y z w =
+      (r ≡ writeJournal g s id1 id2 b)
+      × ((x ≡ unless (askWriteJournal g s id1 id2 b) bytes (movedBytes (s .machine) b bytes))
+      × ((y ≡ unless (askWriteJournal g s id1 id2 b) lens (movedLens (s .machine) b lens))
+      × ((z ≡ unless (askWriteJournal g s id1 id2 b) blocks (writtenBlocks g s b bytes lens blocks))
+      × (w ≡ unless (askWriteJournal g s id1 id2 b) marks (writtenMarks g s b marks)))))
+
+  pub write-refused : (n : ℕ) → r .answer ≡ answer.Refused n → Written bytes lens blocks marks
+  unfolding both askWriteJournal
+  write-refused n t =
+      (e, (answer-kept _ _ _ s r e n bytes _ t, (answer-kept _ _ _ s r e n lens _ t, (answer-kept _ _ _ s r e n blocks _ t, answer-kept _ _ _ s r e n marks _ t))))
+
+  pub write-taken : (o : DiskOp) (gone rest : Count) (v : JournalInterval) (x y z w : List ℕ) → r .answer ≡ answer.Next o → gone ≡ sentOf (s .machine) b → rest ≡ leftOf (s .machine) b
+      → v ≡ intervalOf o
+      → z ≡ putRange bytes lens (gone .entries) (gone .bytes) blocks (v .start)
+      → w ≡ updateMarks marks v
+      → x ≡ splice bytes 0 (take (rest .bytes) (drop (gone .bytes) bytes))
+      → y ≡ splice lens 0 (take (rest .entries) (drop (gone .entries) lens))
+      → Written x y z w
+  unfolding both askWriteJournal
+  write-taken o gone rest v x y z w t hg hr hv hz hw hx hy =
+      let k : v ≡ writtenInterval g s b = hv ∙ ap intervalOf (answer-yes _ _ _ s r e o t .1) in (
+        e,
+        (
+          answer-changed _ _ _ s r e o x bytes _ t (hx ∙ (λ i. splice bytes 0 (take (hr i .bytes) (drop (hg i .bytes) bytes)))),
+          (
+            answer-changed _ _ _ s r e o y lens _ t (hy ∙ (λ i. splice lens 0 (take (hr i .entries) (drop (hg i .entries) lens)))),
+            (
+              answer-changed _ _ _ s r e o z blocks _ t (hz ∙ (λ i. putRange bytes lens (hg i .entries) (hg i .bytes) blocks (k i .start))),
+              answer-changed _ _ _ s r e o w marks _ t (hw ∙ ap (updateMarks marks) k),
+            ),
+          ),
+        ),
+      )
+
+-- a journal read's answer
+module _ (g : Geometry) (s : Store) (id : ℕ) (whole : Bool) (marks : List ℕ) (e : JournalAcked)
+    (he : e ≡ journalAnswered (askAckReadJournal (s .disk .journalReads) id whole marks) (heldInterval (s .disk .journalReads) id) (ackReadJournalNext (s .disk) id) (s .disk)) where
+  abbrev asks : ℕ
+  asks = askAckReadJournal (s .disk .journalReads) id whole marks
+
+  number : (n : ℕ) → e .answer ≡ journalAnswer.Refused n → n ≡ asks
+  unfolding journalAnswered
+  number n h =
+      let k : e .answer ≡ journalAnswer.Refused asks =
+      ap (λ (y : JournalAcked). y .answer)
+      (he ∙ asked-no {A = JournalAcked} asks (record { answer = journalAnswer.Read (heldInterval (s .disk .journalReads) id); disk = ackReadJournalNext (s .disk) id })
+      (record { answer = journalAnswer.Refused asks; disk = s .disk }) (journal-refused asks _ _ (s .disk) e he n h)) in
+      cc
+
+  pub read-refused : (n : ℕ) (pieces new : List ℕ) → e .answer ≡ journalAnswer.Refused n
+      → (refused s n ≡ journalRead s id whole marks) × (pieces ≡ unless (askJournalRead s id whole marks) pieces new)
+  unfolding askJournalRead
+  read-refused n pieces new h =
+      let f = journal-refused asks _ _ (s .disk) e he n h in
+      (answers.answered-not asks n _ _ s (f, number n h), sym (unless-kept asks pieces new f))
+
+  pub read-taken : (v : JournalInterval) (read : JournalRead) (p : Paged) (m : Machine) (blocks pieces x : List ℕ) → e .answer ≡ journalAnswer.Read v → read ≡ readOf whole
+      → p ≡ pagedIn g (s .machine) id read → m ≡ pageInJournalRespMachine (s .machine) id read
+      → x ≡ copyBlocks blocks (v .start) (p .len) pieces (p .place)
+      → (accepted (op.RespReadJournal id read) (store m (e .disk)) ≡ journalRead s id whole marks)
+      × (x ≡ unless (askJournalRead s id whole marks) pieces (readPieces g s id whole blocks pieces))
+  unfolding askJournalRead
+  read-taken v read p m blocks pieces x h hr hp hm hx =
+      let k = journal-read asks _ _ (s .disk) e he v h in
+      let d : e .disk ≡ ackReadJournalNext (s .disk) id = ap (λ (y : JournalAcked). y .disk) (he ∙ asked-journal-read asks _ _ (s .disk) (k .0)) in
+      let place : p ≡ pagedIn g (s .machine) id (readOf whole) = hp ∙ ap (pagedIn g (s .machine) id) hr in (
+        answers.answered-is asks (op.RespReadJournal id read) _ (store m (e .disk)) _ s (k .0) (ap (op.RespReadJournal id) hr)
+            (λ i. store ((hm ∙ ap (pageInJournalRespMachine (s .machine) id) hr) i) (d i)),
+        hx ∙ (λ i. copyBlocks blocks (k .1 i .start) (place i .len) pieces (place i .place)) ∙ sym (unless-done asks pieces _ (k .0)),
+      )
+
+-- answers whose slot, or whose superblock, is the disk's own
+pub written-is : (g : Geometry) (s : Store) (id : ℕ) (m : Machine) → m ≡ writeBackJournalRespMachine (s .machine) id → both g s 0 (writeBackJournalRespOp id) m ≡ journalWritten g s id
+written-is g s id m e = ap (both g s 0 (writeBackJournalRespOp id)) e
+
+pub slot-is : (g : Geometry) (s : Store) (id which : ℕ) → which ≡ slotOf (s .disk .superblockWrites) id
+    → both g s (askWriteBackSuperblockRespStep which) (writeBackSuperblockRespOp which id) (writeBackSuperblockRespMachine (s .machine) id) ≡ superblockWritten g s id
+slot-is g s id which e = ap (λ (w : ℕ). both g s (askWriteBackSuperblockRespStep w) (writeBackSuperblockRespOp w id) (writeBackSuperblockRespMachine (s .machine) id)) e
+
+pub content-is : (g : Geometry) (s : Store) (which id : ℕ) (whole : Bool) (r : SuperblockRead) → r ≡ contentOf s which whole
+    → both g s (askPageInSuperblockRespStep which) (pageInSuperblockRespOp which id r) (pageInSuperblockRespMachine g (s .machine) which id r) ≡ superblockRead g s which id whole
+content-is g s which id whole r e =
+    ap (λ (x : SuperblockRead). both g s (askPageInSuperblockRespStep which) (pageInSuperblockRespOp which id x) (pageInSuperblockRespMachine g (s .machine) which id x)) e
+
+-- a landing
+module _ (s : Store) (which : ℕ) (e : DiskStepped) (he : e ≡ D.answered (askLand (s .disk .superblockWrites) which) (landNext (s .disk) which) (s .disk)) where
+  abbrev lands : ℕ
+  lands = askLand (s .disk .superblockWrites) which
+
+  pub land-no : (n : ℕ) → e .answer ≡ disk.Refused n → refused s n ≡ land s which
+  land-no n h =
+      let f = refused-asked lands (landNext (s .disk) which) (s .disk) n (sym (ap (λ (x : DiskStepped). x .answer) he) ∙ h) in
+      let k : e .answer ≡ disk.Refused lands = ap (λ (x : DiskStepped). x .answer) (he ∙ asked-refused lands (landNext (s .disk) which) (s .disk) f) in
+      let number : n ≡ lands = cc in
+      answers.answered-not lands n _ _ s (f, number)
+
+  pub land-yes : e .answer ≡ disk.Done → accepted op.NoDiskOp (store (s .machine) (e .disk)) ≡ land s which
+  land-yes h =
+      let z = done-asked lands (landNext (s .disk) which) (s .disk) (sym (ap (λ (x : DiskStepped). x .answer) he) ∙ h) in
+      answers.answered-is lands op.NoDiskOp _ (store (s .machine) (e .disk)) _ s z refl
+      (ap (λ (x : DiskStepped). store (s .machine) (x .disk)) (he ∙ asked-done lands (landNext (s .disk) which) (s .disk) z))
+
+-- the step over all calls, from its parts
+module _ (g : Geometry) (l : Lent) (v : Given) (s : Store) (x : Step) (k : ℕ) (hk : k ≡ askPicture g (v .picture) (v .pictured) x) where
+  abbrev asksAll : ℕ
+  asksAll = askStep g l v s x
+
+  no-step : (n : ℕ) → (asksAll ≡ 0 → ⊥) × (n ≡ asksAll) → (refused s n ≡ stepped g l v s x) × (l ≡ steppedLent g l v s x)
+  unfolding stepped steppedLent
+  no-step n f =
+      (ap (refused s) (f .1) ∙ sym (asked-no asksAll (stepAnswer g l v s x) (refused s asksAll) (f .0)), sym (unless-kept asksAll l (stepLent g l v s x) (f .0)))
+
+  pub picture-refused : (k ≡ 0 → ⊥) → (refused s k ≡ stepped g l v s x) × (l ≡ steppedLent g l v s x)
+  unfolding askStep
+  picture-refused h =
+      let f = andThen-first (askPicture g (v .picture) (v .pictured) x) (askStore g l s) (λ z. h (hk ∙ z)) in
+      no-step k ((λ z. h (hk ∙ sym f ∙ z)), hk ∙ sym f)
+
+  module _ (h : k ≡ 0) (a : Asked) (e : a ≡ found (askStore g l s) (bodiesOf (l .lens) (s .machine))) where
+    all-asked : asksAll ≡ askStore g l s
+    unfolding askStep
+    all-asked = andThen-done (askPicture g (v .picture) (v .pictured) x) (askStore g l s) (sym hk ∙ h)
+
+    pub state-refused : (n : ℕ) → a ≡ asked.Refused n → (refused s n ≡ stepped g l v s x) × (l ≡ steppedLent g l v s x)
+    state-refused n t =
+        let f = refused-found (askStore g l s) (bodiesOf (l .lens) (s .machine)) a e n t in
+        no-step n ((λ z. f .0 (sym all-asked ∙ z)), f .1 ∙ sym all-asked)
+
+    pub state-taken : (b : Bodies) (r : StoreStepped) (after : Lent) → a ≡ asked.Held b → r ≡ stepAnswerWith g l v s x b → after ≡ stepLentWith g l v s x b
+        → (r ≡ stepped g l v s x) × (after ≡ steppedLent g l v s x)
+    unfolding stepped steppedLent
+    state-taken b r after t hr ha =
+        let f = held-found (askStore g l s) (bodiesOf (l .lens) (s .machine)) a e b t in
+        let z : asksAll ≡ 0 = all-asked ∙ f .0 in (
+          hr ∙ ap (stepAnswerWith g l v s x) (f .1) ∙ sym (asked-yes asksAll (stepAnswer g l v s x) (refused s asksAll) z),
+          ha ∙ ap (stepLentWith g l v s x) (f .1) ∙ sym (unless-done asksAll l (stepLent g l v s x) z),
+        )
+
+    -- the same slice by slice, as the promises have it
+    pub step-taken : (b : Bodies) (r : StoreStepped) (bytes lens pieces rbytes rlens blocks marks : List ℕ) → a ≡ asked.Held b
+        → (r ≡ stepAnswerWith g l v s x b) × ((bytes ≡ stepLentWith g l v s x b .bytes) × ((lens ≡ stepLentWith g l v s x b .lens) × ((pieces ≡ stepLentWith g l v s x b .pieces) × ((rbytes ≡ stepLentWith g l v s x b .rbytes) × ((rlens ≡ stepLentWith g l v s x b .rlens) × ((blocks ≡ stepLentWith g l v s x b .blocks) × (marks ≡ stepLentWith g l v s x b .marks)))))))
+        → (r ≡ stepped g l v s x) × ((bytes ≡ steppedLent g l v s x .bytes) × ((lens ≡ steppedLent g l v s x .lens) × ((pieces ≡ steppedLent g l v s x .pieces) × ((rbytes ≡ steppedLent g l v s x .rbytes) × ((rlens ≡ steppedLent g l v s x .rlens) × ((blocks ≡ steppedLent g l v s x .blocks) × (marks ≡ steppedLent g l v s x .marks)))))))
+    step-taken b r bytes lens pieces rbytes rlens blocks marks t w =
+        let h =
+        state-taken b r (lent bytes lens pieces rbytes rlens blocks marks) t (w .0)
+        (λ i. lent (w .1 .0 i) (w .1 .1 .0 i) (w .1 .1 .1 .0 i) (w .1 .1 .1 .1 .0 i) (w .1 .1 .1 .1 .1 .0 i) (w .1 .1 .1 .1 .1 .1 .0 i) (w .1 .1 .1 .1 .1 .1 .1 i)) in
+        (h .0, (ap (λ (k : Lent). k .bytes) (h .1), (ap (λ (k : Lent). k .lens) (h .1), (ap (λ (k : Lent). k .pieces) (h .1), (ap (λ (k : Lent). k .rbytes) (h .1), (ap (λ (k : Lent). k .rlens) (h .1), (ap (λ (k : Lent). k .blocks) (h .1), ap (λ (k : Lent). k .marks) (h .1))))))))

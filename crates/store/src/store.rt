@@ -1,0 +1,89 @@
+// The store's state, what a step answers, and a step of the machine with its operation at the disk.
+use disk::Disk;
+use disk::DiskAnswer;
+use disk::Slots;
+use layout::Geometry;
+use machine::Machine;
+use machine::MachineAnswer;
+use machine::MachineStepped;
+use superblock::DiskOp;
+ghost use mathlib.Core.Path.{_≡_};
+ghost use Rattle.machine.specs.Machine.{initialMachine};
+ghost use Rattle.disk.specs.Disk.{idleDisk};
+ghost use Rattle.store.specs.Store.{store};
+ghost use Rattle.store.specs.Steps.{machineRefusal, diskRefusal, bothBy};
+
+pub struct Store {
+    pub machine: Machine,
+    pub disk: Disk,
+}
+
+// The disk operation that was done, or the number of the question that was answered no. The store beside it is the next one, or the one given.
+pub enum StoreAnswer {
+    Next(DiskOp),
+    Refused(u8),
+}
+
+pub struct StoreStepped {
+    pub answer: StoreAnswer,
+    pub store: Store,
+}
+
+fn machine_refusal(a: MachineAnswer) -> u8
+    ensures { λ r. ⌜ r ≡ machineRefusal a ⌝ }
+{
+    match a {
+        MachineAnswer::Next(_) => 0,
+        MachineAnswer::Refused(q) => q,
+    }
+}
+
+fn disk_refusal(a: DiskAnswer) -> u8
+    ensures { λ r. ⌜ r ≡ diskRefusal a ⌝ }
+{
+    match a {
+        DiskAnswer::Done => 0,
+        DiskAnswer::Refused(q) => q,
+    }
+}
+
+impl Store {
+    // The machine at Init beside a disk without requests.
+    pub fn initial(slots: Slots) -> Store
+        ensures { λ r. ⌜ r ≡ store initialMachine (idleDisk slots) ⌝ }
+    {
+        let machine = Machine::initial();
+        let disk = Disk::idle(slots);
+        Store { machine, disk }
+    }
+
+    // A step that the machine has answered goes to the disk; either's no leaves the store.
+    pub(crate) fn both(self, g: Geometry, stepped: MachineStepped) -> StoreStepped
+        ensures { λ r. ⌜ r ≡ bothBy g self stepped ⌝ }
+    {
+        let a = stepped.answer;
+        let MachineAnswer::Next(op) = a else {
+            let q = machine_refusal(a);
+            return StoreStepped {
+                answer: StoreAnswer::Refused(q),
+                store: self,
+            };
+        };
+        let d = self.disk;
+        let e = d.decide_asked(g, op);
+        let b = e.answer;
+        let DiskAnswer::Done = b else {
+            let q = disk_refusal(b);
+            return StoreStepped {
+                answer: StoreAnswer::Refused(q),
+                store: self,
+            };
+        };
+        let machine = stepped.machine;
+        let disk = e.disk;
+        StoreStepped {
+            answer: StoreAnswer::Next(op),
+            store: Store { machine, disk },
+        }
+    }
+}
