@@ -1,0 +1,79 @@
+use borrow.Author.Needs.{needs}
+use mathlib.Core.Path.{_≡_, _∙_}
+use lib.ListN.{length}
+use Rattle.brewday.proofs.run.Statement.{statement}
+use Rattle.brewday.proofs.run.Tie as tie
+
+abbrev Inv-loop : tie.InvT-loop
+Inv-loop input bytes₀ lens₀ pieces₀ rbytes₀ rlens₀ blocks₀ marks₀ d₀ turns₀ bytes lens pieces rbytes rlens blocks marks d turns =
+    ((length bytes ≡ length bytes₀) × ((length lens ≡ length lens₀) × ((length pieces ≡ length pieces₀) × ((length rbytes ≡ length rbytes₀) × ((length rlens ≡ length rlens₀) × ((length blocks ≡ length blocks₀) × (length marks ≡ length marks₀)))))))
+
+abbrev μ-loop : tie.MeasureT-loop
+μ-loop input bytes₀ lens₀ pieces₀ rbytes₀ rlens₀ blocks₀ marks₀ d₀ turns₀ bytes lens pieces rbytes rlens blocks marks d turns =
+    turns
+
+first-store-requires : tie.Need-first-store-requires Inv-loop μ-loop
+first-store-requires c κs = search needs
+
+loop-holds : tie.Need-loop-holds Inv-loop μ-loop
+loop-holds c = search needs
+
+sub-turns : tie.Need-sub-turns Inv-loop μ-loop
+sub-turns c = search needs
+
+turn-requires : tie.Need-turn-requires Inv-loop μ-loop
+turn-requires c κs = search needs
+
+loop-less : tie.Need-loop-less Inv-loop μ-loop
+loop-less c = search needs
+
+loop-again : tie.Need-loop-again Inv-loop μ-loop
+loop-again c =
+    let k = c .before .before .before .before .before .before .before .before .before .before .before .before .before .before .turn .kept .1 .1 in
+    let v = c .before .before .before .before .before .before .before .before .before .before .before .before .before .before .before .before .before .before .before .before .before .before .before .loop .inv in
+    (k .0 ∙ v .0, (k .1 .0 ∙ v .1 .0, (k .1 .1 .0 ∙ v .1 .1 .0, (k .1 .1 .1 .0 ∙ v .1 .1 .1 .0, (k .1 .1 .1 .1 .0 ∙ v .1 .1 .1 .1 .0, (k .1 .1 .1 .1 .1 .0 ∙ v .1 .1 .1 .1 .1 .0, k .1 .1 .1 .1 .1 .1 .0 ∙ v .1 .1 .1 .1 .1 .1))))))
+
+same-length : tie.Need-same-length Inv-loop μ-loop
+same-length c = search needs
+
+same-length-2 : tie.Need-same-length-2 Inv-loop μ-loop
+same-length-2 c = search needs
+
+same-length-3 : tie.Need-same-length-3 Inv-loop μ-loop
+same-length-3 c = search needs
+
+same-length-4 : tie.Need-same-length-4 Inv-loop μ-loop
+same-length-4 c = search needs
+
+same-length-5 : tie.Need-same-length-5 Inv-loop μ-loop
+same-length-5 c = search needs
+
+same-length-6 : tie.Need-same-length-6 Inv-loop μ-loop
+same-length-6 c = search needs
+
+same-length-7 : tie.Need-same-length-7 Inv-loop μ-loop
+same-length-7 c = search needs
+
+returns : tie.Need-returns Inv-loop μ-loop
+returns c = search needs
+
+pub run-spec : {M : Type 1} → statement M
+run-spec =
+    tie.close
+    (tie.spec
+    Inv-loop
+    μ-loop
+    first-store-requires
+    loop-holds
+    sub-turns
+    turn-requires
+    loop-less
+    loop-again
+    same-length
+    same-length-2
+    same-length-3
+    same-length-4
+    same-length-5
+    same-length-6
+    same-length-7
+    returns)

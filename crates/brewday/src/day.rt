@@ -1,0 +1,93 @@
+// One line of the day: its command, the step, its row.
+use super::command;
+use super::command::Command;
+use super::row;
+use super::words;
+use layout::Geometry;
+use store::Store;
+
+// The store so far, the place of the next line, and the number of the last one.
+pub struct Day {
+    pub store: Store,
+    pub at: usize,
+    pub row: u64,
+}
+
+fn geometry() -> Geometry {
+    Geometry {
+        blocks: 8,
+        table: 4096,
+    }
+}
+
+// The number after this one; the largest stays.
+fn after(row: u64) -> u64 {
+    if row == 18446744073709551615 {
+        return row;
+    }
+    row + 1
+}
+
+fn place_after(end: usize) -> usize {
+    if end == 18446744073709551615 {
+        return end;
+    }
+    end + 1
+}
+
+pub(crate) fn turn(
+    d: Day,
+    input: &[u8],
+    bytes: &mut [u8],
+    lens: &mut [u16],
+    pieces: &mut [u8],
+    rbytes: &mut [u8],
+    rlens: &mut [u16],
+    blocks: &mut [u8],
+    marks: &mut [u8],
+) -> Day {
+    let from = d.at;
+    let s = d.store;
+    if input.len() <= from {
+        return d;
+    }
+    let end = words::next(input, from, input.len(), 10);
+    let n = after(d.row);
+    let at = place_after(end);
+    let mut brought = [0u8; 256];
+    let mut sizes = [0u16; 1];
+    let c = command::parse(input, from, end, &mut brought, &mut sizes);
+    let Command::Is(x) = c else {
+        row::not_a_command(n);
+        return Day {
+            store: s,
+            at: at,
+            row: n,
+        };
+    };
+    let none = [0u8; 1];
+    let r = s.step(
+        geometry(),
+        x,
+        &brought,
+        &sizes,
+        &none,
+        &none,
+        bytes,
+        lens,
+        pieces,
+        rbytes,
+        rlens,
+        blocks,
+        marks,
+    );
+    let next = r.store;
+    let a = r.answer;
+    let m = next.machine;
+    row::print(n, a, m);
+    Day {
+        store: next,
+        at: at,
+        row: n,
+    }
+}

@@ -1,0 +1,84 @@
+// A brew day at N = 8, T = 4,096 (document 01): a line of input is a command, and a row of output says what it came to. A line that isn't a
+// command says so with its number, alters nothing, and the day goes on.
+mod command;
+mod day;
+mod row;
+mod words;
+
+use day::Day;
+use disk::Slots;
+use layout::Location;
+use libc::STDIN_FILENO;
+use libc::STDOUT_FILENO;
+use store::Store;
+use superblock::MaybeSuperblock;
+use superblock::Superblock;
+
+// Both slots: counter 0, an empty journal from block 0, table 1 with length 4,096.
+fn first_store() -> Store {
+    let loc = Location {
+        addr: 40960,
+        len: 4096,
+    };
+    let s = Superblock {
+        counter: 0,
+        journalStart: 0,
+        journalLen: 0,
+        indirectionTableLoc: loc,
+    };
+    let slots = Slots {
+        first: MaybeSuperblock::Holds(s),
+        second: MaybeSuperblock::Holds(s),
+    };
+    Store::initial(slots)
+}
+
+// Each turn takes one line; there are no more lines than bytes.
+fn run(
+    input: &[u8],
+    bytes: &mut [u8],
+    lens: &mut [u16],
+    pieces: &mut [u8],
+    rbytes: &mut [u8],
+    rlens: &mut [u16],
+    blocks: &mut [u8],
+    marks: &mut [u8],
+) {
+    let s = first_store();
+    let mut d = Day {
+        store: s,
+        at: 0,
+        row: 0,
+    };
+    let mut turns = input.len();
+    while 0 < turns {
+        turns -= 1;
+        d = day::turn(d, input, bytes, lens, pieces, rbytes, rlens, blocks, marks);
+    }
+}
+
+fn main() {
+    let mut input = io::large_buffer();
+    let mut bytes = [0u8; 65536];
+    let mut lens = [0u16; 1024];
+    let mut pieces = [0u8; 32768];
+    let mut rbytes = [0u8; 32768];
+    let mut rlens = [0u16; 32768];
+    let mut blocks = [0u8; 32768];
+    let mut marks = [0u8; 8];
+    let n = io::read_full(STDIN_FILENO, &mut input);
+    io::write_all(STDOUT_FILENO, b"n r k c s l w\n");
+    run(
+        &input[..n],
+        &mut bytes,
+        &mut lens,
+        &mut pieces,
+        &mut rbytes,
+        &mut rlens,
+        &mut blocks,
+        &mut marks,
+    );
+    if n == 65536 {
+        io::write_all(STDOUT_FILENO, b"the input is cut after 65536 bytes\n");
+    }
+}
