@@ -1,0 +1,286 @@
+//! Plays random days through two trace programs and compares every row; checks each load
+//! against the ledger, worked out from the lines and the refusals alone.
+#![forbid(unsafe_code)]
+
+use std::collections::BTreeMap;
+use std::io::Write;
+use std::path::{Path, PathBuf};
+use std::process::{Command, ExitCode, Stdio};
+use std::sync::atomic::{AtomicU64, Ordering};
+use std::sync::Mutex;
+
+use second::days::{Day, Options};
+use second::layout::Location;
+use second::ledger::Ledger;
+use second::range::{valid_entry, Entry};
+use second::store::Step;
+use second::text::{parse_disk, parse_step};
+
+const USAGE: &str = "compare [--seeds FIRST LAST] [--steps K] [--ledger] [--ill] [PROGRAM [PROGRAM]]";
+
+struct Arguments {
+    seeds: (u64, u64),
+    options: Options,
+    programs: Vec<String>,
+}
+
+fn arguments() -> Result<Arguments, String> {
+    let options = Options { steps: 300, ledger: false, ill: false };
+    let mut arguments = Arguments { seeds: (1, 1000), options, programs: vec![] };
+    let mut words = std::env::args().skip(1);
+    while let Some(word) = words.next() {
+        let mut number = || words.next().and_then(|w| w.parse().ok()).ok_or(USAGE);
+        match word.as_str() {
+            "--seeds" => arguments.seeds = (number()?, number()?),
+            "--steps" => arguments.options.steps = number()? as usize,
+            "--ledger" => arguments.options.ledger = true,
+            "--ill" => arguments.options.ill = true,
+            word if word.starts_with('-') => return Err(USAGE.into()),
+            _ => arguments.programs.push(word),
+        }
+    }
+    if arguments.programs.is_empty() {
+        let own = std::env::current_exe().map_err(|e| e.to_string())?.with_file_name("trace");
+        let first: PathBuf = [env!("CARGO_MANIFEST_DIR"), "..", "target", "bin", "trace"].iter().collect();
+        let there = |p: &&Path| p.exists();
+        let found = [own.as_path(), first.as_path()].into_iter().filter(|p| there(p));
+        arguments.programs.extend(found.map(|p| p.display().to_string()));
+    }
+    Ok(arguments)
+}
+
+/// The program's rows for a day.
+fn play(program: &str, day: &str) -> Result<Vec<String>, String> {
+    let mut words = program.split_whitespace();
+    let fail = |e: std::io::Error| format!("{program}: {e}");
+    let mut child = Command::new(words.next().ok_or("no program")?)
+        .args(words)
+        .stdin(Stdio::piped())
+        .stdout(Stdio::piped())
+        .spawn()
+        .map_err(fail)?;
+    let mut input = child.stdin.take().ok_or("no standard input")?;
+    let output = std::thread::scope(|scope| {
+        // A program that ends early shows by its rows.
+        scope.spawn(move || input.write_all(day.as_bytes()));
+        child.wait_with_output()
+    });
+    let rows = String::from_utf8_lossy(&output.map_err(fail)?.stdout).lines().map(String::from).collect();
+    Ok(rows)
+}
+
+/// What is known of a store loaded since its last crash.
+struct Loaded {
+    replay: Vec<Entry>,
+    taken: usize,
+    table: Location,
+    received: Option<Location>,
+    committed: bool,
+}
+
+/// The ledger beside one program's rows.
+struct Audit {
+    ledger: Option<Ledger>,
+    loaded: Option<Loaded>,
+    loads: u64,
+}
+
+impl Audit {
+    fn new(disk: &str) -> Self {
+        let ledger = parse_disk(disk.as_bytes()).and_then(|(g, slots)| Ledger::new(g, slots));
+        Audit { ledger, loaded: None, loads: 0 }
+    }
+
+    /// Takes a step and its row; says what is not the ledger's.
+    fn feed(&mut self, step: &Step, row: &str) -> Result<(), String> {
+        let Some(ledger) = &mut self.ledger else { return Ok(()) };
+        let columns: Vec<&str> = row.split(' ').collect();
+        let &[_, r, _, c, s, l, w, _, _, _, _, _, y, ..] = columns.as_slice() else {
+            return Err("no row".into());
+        };
+        let taken = r == "0";
+        ledger.feed(step, !taken);
+        match (step, &mut self.loaded) {
+            (Step::Crash, _) if taken => self.loaded = None,
+            (Step::FinishJournal, _) if taken => {
+                let replay: Vec<Entry> = ledger.entries().cloned().collect();
+                let shown = [ledger.counter, ledger.start, ledger.len(), ledger.len(), replay.len() as u64];
+                if shown.map(|x| x.to_string()) != [c, s, l, w, y] {
+                    return Err(format!("the ledger is c s l w y = {shown:?}"));
+                }
+                let table = ledger.table;
+                self.loaded = Some(Loaded { replay, taken: 0, table, received: None, committed: false });
+                self.loads += 1;
+            }
+            (Step::Replay(entries), Some(known)) => {
+                let sound = entries.len() <= 16 && entries.iter().all(valid_entry);
+                let prefix = sound && known.replay[known.taken..].starts_with(entries);
+                if prefix != taken {
+                    return Err(format!(
+                        "by the ledger this replay is {}a prefix",
+                        if prefix { "" } else { "not " }
+                    ));
+                }
+                known.taken += if taken { entries.len() } else { 0 };
+            }
+            (Step::Freeze, Some(known)) if !known.committed && known.taken == known.replay.len() => {
+                if (known.received == Some(known.table)) == taken {
+                    return Err(format!("the ledger's location is {:?}", known.table));
+                }
+                known.received = known.received.filter(|_| !taken);
+            }
+            (Step::ReceiveLocation(loc), Some(known)) if taken => known.received = Some(*loc),
+            (Step::CommitLog { .. } | Step::CommitLocation { .. }, Some(known)) if taken => {
+                known.committed = true
+            }
+            _ => {}
+        }
+        Ok(())
+    }
+}
+
+#[derive(Default)]
+struct Totals {
+    days: u64,
+    rows: u64,
+    loads: u64,
+    /// By step and refusal; a line that is no step has no refusal.
+    met: BTreeMap<(&'static str, String), u64>,
+    failure: Option<(u64, String)>,
+}
+
+/// One day through all programs: its counts, or what is apart.
+fn day(seed: u64, arguments: &Arguments) -> Result<Totals, String> {
+    let lines: Vec<String> = Day::new(seed, arguments.options).collect();
+    let text = lines.iter().map(|l| format!("{l}\n")).collect::<String>();
+    let played: Vec<Vec<String>> =
+        arguments.programs.iter().map(|p| play(p, &text)).collect::<Result<_, _>>()?;
+    let mut totals = Totals { days: 1, ..Totals::default() };
+    let mut audits: Vec<Audit> = played.iter().map(|_| Audit::new(&lines[0])).collect();
+    for (n, line) in lines.iter().enumerate() {
+        let rows: Vec<&str> = played.iter().map(|p| p.get(n).map_or("no row", |r| r)).collect();
+        let report = |what: String| {
+            let rows = arguments.programs.iter().zip(&rows).map(|(p, r)| format!("\n  {p}\n    {r}"));
+            let line = if line.len() > 300 { format!("{}..", &line[..300]) } else { line.clone() };
+            format!("seed {seed}, step {n}: {line}\n  {what}{}", rows.collect::<String>())
+        };
+        if rows.iter().any(|r| *r != rows[0] || *r == "no row") {
+            return Err(report("the rows differ".into()));
+        }
+        totals.rows += 1;
+        if n == 0 {
+            continue;
+        }
+        let Some(step) = parse_step(line.as_bytes()) else {
+            if rows[0] != format!("line {n} is not a step") {
+                return Err(report("this line is not a step".into()));
+            }
+            *totals.met.entry(("no step", "-".into())).or_default() += 1;
+            continue;
+        };
+        let refusal = rows[0].split(' ').nth(1).unwrap_or("-").to_string();
+        *totals.met.entry((step.word(), refusal)).or_default() += 1;
+        for (audit, row) in audits.iter_mut().zip(&rows) {
+            audit.feed(&step, row).map_err(report)?;
+        }
+    }
+    if let Some(p) = played.iter().position(|p| p.len() > lines.len()) {
+        return Err(format!("seed {seed}: {} has rows after the day's end", arguments.programs[p]));
+    }
+    totals.loads = audits.iter().map(|a| a.loads).sum();
+    Ok(totals)
+}
+
+impl Totals {
+    fn add(&mut self, other: Totals) {
+        self.days += other.days;
+        self.rows += other.rows;
+        self.loads += other.loads;
+        for (key, count) in other.met {
+            *self.met.entry(key).or_default() += count;
+        }
+    }
+
+    fn table(&self) {
+        let refusals: Vec<String> = (0..=9).map(|r| r.to_string()).chain(["-".into()]).collect();
+        let count = |of: &dyn Fn(&(&str, String)) -> bool| {
+            self.met.iter().filter(|(key, _)| of(key)).map(|(_, count)| count).sum::<u64>()
+        };
+        print!("{:>8}", "step");
+        refusals.iter().for_each(|r| print!(" {r:>9}"));
+        println!();
+        let mut words: Vec<&str> = self.met.keys().map(|(word, _)| *word).collect();
+        words.dedup();
+        for word in words {
+            print!("{word:>8}");
+            refusals.iter().for_each(|r| print!(" {:>9}", count(&|key| key.0 == word && key.1 == *r)));
+            println!();
+        }
+        print!("{:>8}", "all");
+        refusals.iter().for_each(|r| print!(" {:>9}", count(&|key| key.1 == *r)));
+        println!();
+    }
+}
+
+fn main() -> ExitCode {
+    let arguments = match arguments() {
+        Ok(arguments) => arguments,
+        Err(error) => {
+            eprintln!("{error}");
+            return ExitCode::FAILURE;
+        }
+    };
+    let (first, last) = arguments.seeds;
+    println!(
+        "seeds {first} to {last}, {} steps a day: {}",
+        arguments.options.steps,
+        arguments.programs.join(" | ")
+    );
+    if arguments.programs.len() < 2 {
+        println!("(one program only: its rows stand alone, against the ledger)");
+    }
+    let next = AtomicU64::new(first);
+    let totals = Mutex::new(Totals::default());
+    std::thread::scope(|scope| {
+        for _ in 0..std::thread::available_parallelism().map_or(2, |n| n.get()) {
+            scope.spawn(|| loop {
+                let seed = next.fetch_add(1, Ordering::Relaxed);
+                if seed > last {
+                    break;
+                }
+                let played = day(seed, &arguments);
+                let mut totals = totals.lock().expect("no worker fails");
+                match played {
+                    Ok(more) => totals.add(more),
+                    Err(what) => {
+                        if totals.failure.as_ref().is_none_or(|(s, _)| seed < *s) {
+                            totals.failure = Some((seed, what));
+                        }
+                        next.store(last + 1, Ordering::Relaxed);
+                    }
+                }
+                if totals.days % 500 == 0 && totals.failure.is_none() {
+                    eprintln!(
+                        "{} days, {} rows, {} loads: none apart",
+                        totals.days, totals.rows, totals.loads
+                    );
+                }
+            });
+        }
+    });
+    let totals = totals.into_inner().expect("no worker fails");
+    totals.table();
+    match totals.failure {
+        Some((_, what)) => {
+            println!("{what}");
+            ExitCode::FAILURE
+        }
+        None => {
+            println!(
+                "{} days, {} rows, {} loads showing their ledger: none apart",
+                totals.days, totals.rows, totals.loads
+            );
+            ExitCode::SUCCESS
+        }
+    }
+}

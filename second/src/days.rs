@@ -1,0 +1,480 @@
+//! Random days, repeatable from a seed. The generator plays along on a store of its own,
+//! so that most steps are of use, and the others wrong on purpose.
+
+use std::collections::VecDeque;
+
+use crate::layout::{Geometry, Interval, Location};
+use crate::ledger::Ledger;
+use crate::machine::{Machine, Phase, Piece, Ready, Slot, Sync, STEP_ENTRIES};
+use crate::range::{self, Entry};
+use crate::store::{Step, Store};
+use crate::superblock::Superblock;
+use crate::text::{disk_line, MAX_BLOCKS};
+
+/// SplitMix64.
+#[derive(Clone, Debug)]
+pub struct Rng(u64);
+
+impl Rng {
+    pub fn new(seed: u64) -> Self {
+        Rng(seed.wrapping_mul(0xd129_0d3b_6f5c_2e4b) ^ 0x5851_f42d_4c95_7f2d)
+    }
+
+    pub fn number(&mut self) -> u64 {
+        self.0 = self.0.wrapping_add(0x9e37_79b9_7f4a_7c15);
+        let z = (self.0 ^ self.0 >> 30).wrapping_mul(0xbf58_476d_1ce4_e5b9);
+        let z = (z ^ z >> 27).wrapping_mul(0x94d0_49bb_1331_11eb);
+        z ^ z >> 31
+    }
+
+    pub fn below(&mut self, n: u64) -> u64 {
+        self.number() % n
+    }
+
+    fn one_in(&mut self, n: u64) -> bool {
+        self.below(n) == 0
+    }
+
+    fn of<T: Copy>(&mut self, choices: &[T]) -> T {
+        choices[self.below(choices.len() as u64) as usize]
+    }
+
+    pub fn bytes(&mut self, len: usize) -> Vec<u8> {
+        (0..len).map(|_| self.number() as u8).collect()
+    }
+}
+
+/// What a stretch of a day is after.
+#[derive(Clone, Copy, Debug, PartialEq, Eq)]
+enum Mood {
+    /// A bit of everything.
+    Steady,
+    /// Many writes, none answered: the tables of writes fill.
+    Hoard,
+    /// As many entries as pending holds.
+    Crowd,
+    /// As many bytes as pending holds, and writes of many blocks.
+    Flood,
+    /// Freezes and location commits: the ring turns.
+    Turn,
+    /// Sync requests.
+    Queue,
+}
+
+#[derive(Clone, Copy, Debug, PartialEq, Eq)]
+pub struct Options {
+    pub steps: usize,
+    /// After each crash, load and show the ledger: replays of all its entries, its location.
+    pub ledger: bool,
+    /// A first disk may have an ill-formed superblock.
+    pub ill: bool,
+}
+
+/// A day's lines, the disk's first.
+pub struct Day {
+    rng: Rng,
+    options: Options,
+    first: Option<String>,
+    store: Store,
+    ledger: Option<Ledger>,
+    mood: (Mood, u64),
+    script: VecDeque<Step>,
+    left: usize,
+}
+
+fn first_disk(rng: &mut Rng, ill: bool) -> (Geometry, [Superblock; 2]) {
+    let n = match rng.below(4) {
+        0 => rng.below(4) + 1,
+        1 => rng.below(MAX_BLOCKS) + 1,
+        2 => rng.below(13) + 20,
+        _ => rng.below(8) + 4,
+    };
+    let t = match rng.below(4) {
+        0 => 1,
+        1 => 16_777_216,
+        2 => rng.below(16_777_216) + 1,
+        _ => 4096,
+    };
+    let g = Geometry::new(n, t).expect("sizes in range");
+    let counter = match rng.below(4) {
+        0 => 0,
+        1 => rng.number(),
+        _ => u64::MAX - rng.below(4),
+    };
+    let other = counter.wrapping_add(rng.of(&[0, 1, 1, 1, 2, u64::MAX, 77]));
+    let mut slots = [counter, other].map(|counter| {
+        let table = location(rng, g);
+        Superblock { counter, start: rng.below(n), len: rng.below(n + 1), table }
+    });
+    let selected = Superblock::select(&slots);
+    if !rng.one_in(40) {
+        slots[selected].len = 0;
+    }
+    if rng.one_in(2) {
+        slots[selected].start = 0;
+    }
+    if ill {
+        let slot = &mut slots[rng.below(2) as usize];
+        match rng.below(4) {
+            0 => slot.start = n + rng.below(2),
+            1 => slot.len = n + 1,
+            2 => slot.table.addr += 1,
+            _ => slot.table.len = rng.of(&[0, t + 1, u64::MAX]),
+        }
+    }
+    (g, slots)
+}
+
+fn location(rng: &mut Rng, g: Geometry) -> Location {
+    let len = rng.below(g.t().min(3)) + if rng.one_in(2) { 1 } else { g.t() - g.t().min(3) + 1 };
+    Location { addr: rng.of(&g.tables()), len }
+}
+
+impl Day {
+    pub fn new(seed: u64, options: Options) -> Self {
+        let mut rng = Rng::new(seed);
+        let (g, slots) = first_disk(&mut rng, options.ill);
+        Day {
+            rng,
+            options,
+            first: Some(disk_line(g, &slots)),
+            store: Store::new(g, slots),
+            ledger: Ledger::new(g, slots),
+            mood: (Mood::Steady, 10),
+            script: VecDeque::new(),
+            left: options.steps,
+        }
+    }
+
+    fn entry(&mut self) -> Entry {
+        let len = match (self.mood.0, self.rng.below(4)) {
+            (Mood::Crowd, _) => 1,
+            (Mood::Flood, 0) => self.rng.below(255) + 1,
+            (Mood::Flood, _) => 255,
+            (_, 0) => 1,
+            (_, 1) => self.rng.below(255) + 1,
+            _ => self.rng.below(8) + 1,
+        };
+        if self.rng.one_in(30) {
+            return vec![0; len as usize];
+        }
+        self.rng.bytes(len as usize)
+    }
+
+    /// Would a write of two blocks go round?
+    fn at_ring_end(&self) -> bool {
+        let g = self.store.geometry;
+        match &self.store.machine.phase {
+            Phase::Ready(r) => g.advance(r.superblock.start, r.written) + 1 == g.n(),
+            _ => false,
+        }
+    }
+
+    fn entries(&mut self) -> Vec<Entry> {
+        let often = self.at_ring_end() || self.mood.0 == Mood::Hoard;
+        if self.rng.one_in(if often { 6 } else { 40 }) {
+            // Just one block, or one byte more.
+            let last = 251 + self.rng.below(2) as usize;
+            return [255; 15].into_iter().chain([last]).map(|len| self.rng.bytes(len)).collect();
+        }
+        let count = match self.mood.0 {
+            Mood::Crowd | Mood::Flood => 16 - self.rng.below(2) * self.rng.below(16),
+            Mood::Hoard => 1 + self.rng.below(2) * self.rng.below(16),
+            _ => self.rng.below(5),
+        };
+        (0..count).map(|_| self.entry()).collect()
+    }
+
+    fn id(&mut self) -> u64 {
+        match self.rng.below(12) {
+            0 => self.rng.number(),
+            1 => self.rng.of(&[0, 1, u64::MAX, u64::MAX - 1]),
+            _ => self.rng.below(48),
+        }
+    }
+
+    /// An id that waits somewhere, if there is any.
+    fn used_id(&mut self) -> u64 {
+        let d = &self.store.disk;
+        let mut ids: Vec<u64> = d.superblock_reads.iter().flatten().copied().collect();
+        ids.extend(d.journal_reads.keys().chain(d.journal_writes.keys()));
+        ids.extend(d.superblock_writes.iter().flatten().map(|(id, _)| id));
+        ids.extend(self.store.machine.sync.keys());
+        if ids.is_empty() || self.rng.one_in(4) {
+            return self.id();
+        }
+        self.rng.of(&ids)
+    }
+
+    fn which(&mut self) -> u64 {
+        match self.rng.below(8) {
+            0 => self.rng.of(&[2, 3, u64::MAX]),
+            k => k % 2,
+        }
+    }
+
+    /// Any step, its arguments as they come.
+    fn wild(&mut self) -> Step {
+        let g = self.store.geometry;
+        let id = self.used_id();
+        match self.rng.below(23) {
+            0 => Step::WriteJournal { id, second: None },
+            1 => {
+                Step::WriteJournal { id, second: Some(if self.rng.one_in(3) { id } else { self.used_id() }) }
+            }
+            2 => Step::JournalWritten { id },
+            3 => Step::CommitLog { id },
+            4 => Step::CommitLocation { id },
+            5 => Step::SuperblockWritten { id },
+            6 => Step::ReadSuperblock { which: self.which(), id },
+            7 => Step::SuperblockRead { which: self.which(), id, whole: true },
+            8 => Step::SuperblockRead { which: self.which(), id, whole: false },
+            9 => Step::ReadJournal { which: self.which(), id },
+            10 => Step::JournalRead { id, whole: true },
+            11 => Step::JournalRead { id, whole: false },
+            12 => Step::FinishSuperblocks,
+            13 => Step::FinishJournal,
+            14 => Step::Freeze,
+            15 => {
+                let mut loc = location(&mut self.rng, g);
+                match self.rng.below(6) {
+                    0 => loc.len = 0,
+                    1 => loc.len = g.t() + 1,
+                    2 => loc.addr = self.rng.of(&[0, 4096, 8192, loc.addr - 1, u64::MAX]),
+                    _ => {}
+                }
+                Step::ReceiveLocation(loc)
+            }
+            16 | 17 => {
+                let mut entries = self.entries();
+                match self.rng.below(6) {
+                    0 => entries.resize(STEP_ENTRIES + 1, vec![7]),
+                    1 => entries.push(vec![9; 256]),
+                    _ => {}
+                }
+                if self.rng.one_in(2) {
+                    Step::Add(entries)
+                } else {
+                    Step::Replay(entries)
+                }
+            }
+            18 => Step::Push { id },
+            19 => Step::Pop { id },
+            20 => Step::AskAgain { which: self.which() },
+            21 => Step::Land { which: self.which() },
+            _ => Step::NoOp,
+        }
+    }
+
+    /// Steps that are of use now, with weights.
+    fn useful(&mut self) -> Vec<(u64, Step)> {
+        let g = self.store.geometry;
+        let Machine { phase, sync, .. } = self.store.machine.clone();
+        let id = self.id();
+        let queue = self.mood.0 == Mood::Queue;
+        let mut steps =
+            vec![(1, Step::NoOp), (if queue { 40 } else { 2 }, Step::Push { id }), (1, Step::Crash)];
+        if let Some((id, _)) = sync.iter().find(|(_, s)| **s == Sync::State1) {
+            steps.push((3, Step::Pop { id: *id }));
+        }
+        match phase {
+            Phase::Superblocks(slots) => {
+                for (slot, which) in slots.into_iter().zip(0..) {
+                    match slot {
+                        Slot::Unread => steps.push((20, Step::ReadSuperblock { which, id })),
+                        Slot::Asked(id) => {
+                            steps.push((20, Step::SuperblockRead { which, id, whole: true }));
+                            steps.push((2, Step::SuperblockRead { which, id, whole: false }));
+                        }
+                        Slot::Corrupt => steps.push((20, Step::AskAgain { which })),
+                        Slot::Read(_) => {}
+                    }
+                }
+                if slots.iter().all(|s| matches!(s, Slot::Read(_))) {
+                    steps.push((60, Step::FinishSuperblocks));
+                }
+            }
+            Phase::Journal(loading) => {
+                let intervals = loading.intervals(g).into_iter();
+                for ((piece, interval), which) in loading.pieces.iter().zip(intervals).zip(0..) {
+                    match piece {
+                        Piece::Unread if interval.is_some() => {
+                            steps.push((20, Step::ReadJournal { which, id }));
+                            steps.push((2, Step::ReadJournal { which, id: self.used_id() }));
+                        }
+                        Piece::Asked(id) => {
+                            steps.push((20, Step::JournalRead { id: *id, whole: true }));
+                            steps.push((2, Step::JournalRead { id: *id, whole: false }));
+                        }
+                        _ => {}
+                    }
+                }
+                steps.push((15, Step::FinishJournal));
+            }
+            Phase::Ready(r) if !r.replay_left().is_empty() => {
+                let mut entries = r.replay_left().to_vec();
+                entries.truncate(self.rng.of(&[16, 16, 16, 16, 8, 3, 1, 0]));
+                if self.rng.one_in(20) {
+                    let last = entries.last_mut().and_then(|e| e.last_mut());
+                    last.into_iter().for_each(|b| *b ^= 1);
+                }
+                steps.push((80, Step::Replay(entries)));
+                steps.push((3, Step::CommitLog { id }));
+                steps.push((3, Step::Add(self.entries())));
+                if let Some(commit) = r.commit {
+                    steps.push((5, Step::Land { which: 1 - r.which as u64 }));
+                    steps.push((5, Step::SuperblockWritten { id: commit.id }));
+                }
+            }
+            Phase::Ready(r) => self.working(&r, &mut steps),
+        }
+        steps
+    }
+
+    fn working(&mut self, r: &Ready, steps: &mut Vec<(u64, Step)>) {
+        let (g, mood, id) = (self.store.geometry, self.mood.0, self.id());
+        let many = |wanted: bool, often, seldom| if wanted { often } else { seldom };
+        let burst = matches!(mood, Mood::Crowd | Mood::Flood);
+        steps.push((many(burst, 150, 12), Step::Add(self.entries())));
+        if !r.outgoing().is_empty() {
+            let len = range::blocks(r.outgoing()) as u64;
+            let interval = Interval::new(g.advance(r.superblock.start, r.written), len);
+            let wraps = g.wraps(interval) != self.rng.one_in(15);
+            let second = wraps.then(|| if self.rng.one_in(15) { id } else { self.id() });
+            let fits = len + r.written <= g.n() && r.commit.is_none();
+            let weight = if burst { 3 } else { many(mood == Mood::Hoard, 40, 20) };
+            steps.push((many(fits, weight, 2), Step::WriteJournal { id, second }));
+        }
+        if let Some(id) = r.outstanding.first() {
+            steps.push((many(mood == Mood::Hoard, 1, 25), Step::JournalWritten { id: *id }));
+        }
+        let turn = mood == Mood::Turn || g.n() - r.written < 2;
+        match r.commit {
+            Some(commit) => {
+                let landed = self.store.disk.slots[1 - r.which] == Some(commit.superblock);
+                steps.push((many(landed, 3, 25), Step::Land { which: 1 - r.which as u64 }));
+                steps.push((many(landed, 25, 3), Step::SuperblockWritten { id: commit.id }));
+            }
+            None => {
+                let stuck = r.frozen_loc == Some(r.superblock.table);
+                steps.push((many(turn && !stuck, 15, 2), Step::Freeze));
+                if r.outstanding.is_empty() && r.frozen.is_empty() {
+                    steps.push((many(mood == Mood::Hoard, 1, 12), Step::CommitLog { id }));
+                    if r.frozen_loc.is_some() {
+                        steps.push((40, Step::CommitLocation { id }));
+                    }
+                }
+            }
+        }
+        if r.is_frozen && r.frozen_loc.is_none() {
+            let same = self.rng.one_in(4);
+            let loc = if same { r.superblock.table } else { location(&mut self.rng, g) };
+            steps.push((20, Step::ReceiveLocation(loc)));
+        }
+    }
+
+    fn choose(&mut self) -> Step {
+        if self.mood.1 == 0 {
+            use Mood::*;
+            let moods = [Steady, Hoard, Hoard, Crowd, Flood, Turn, Turn, Queue];
+            let mood = self.rng.of(&moods);
+            self.mood = (mood, self.rng.below(60) + if mood == Crowd { 70 } else { 30 });
+        }
+        self.mood.1 -= 1;
+        let ready = matches!(self.store.machine.phase, Phase::Ready(_));
+        if self.rng.one_in(if ready { 10 } else { 4 }) {
+            return self.wild();
+        }
+        let steps = self.useful();
+        let mut at = self.rng.below(steps.iter().map(|(weight, _)| weight).sum());
+        for (weight, step) in steps {
+            if at < weight {
+                return step;
+            }
+            at -= weight;
+        }
+        Step::NoOp
+    }
+
+    /// Loads by whole reads, replays the ledger, shows its location, and crashes again.
+    fn showing(&self, ledger: &Ledger) -> VecDeque<Step> {
+        let g = self.store.geometry;
+        let journal = Interval::new(ledger.start, ledger.len());
+        let mut steps = VecDeque::new();
+        steps.extend([0, 1].map(|which| Step::ReadSuperblock { which, id: which }));
+        steps.extend([0, 1].map(|which| Step::SuperblockRead { which, id: which, whole: true }));
+        steps.push_back(Step::FinishSuperblocks);
+        for (piece, which) in [g.front(journal), g.back(journal)].into_iter().zip(0..) {
+            if piece.is_some() {
+                steps.push_back(Step::ReadJournal { which, id: which });
+                steps.push_back(Step::JournalRead { id: which, whole: true });
+            }
+        }
+        steps.push_back(Step::FinishJournal);
+        let entries: Vec<Entry> = ledger.entries().cloned().collect();
+        steps.extend(entries.chunks(STEP_ENTRIES).map(|c| Step::Replay(c.to_vec())));
+        steps.push_back(Step::Freeze);
+        steps.push_back(Step::ReceiveLocation(ledger.table));
+        steps.push_back(Step::Freeze);
+        steps.push_back(Step::Crash);
+        steps
+    }
+}
+
+/// Lines that aren't steps.
+const NONSENSE: &[&str] = &[
+    "",
+    "brew",
+    "wj",
+    "wj 1 2 3",
+    "aj",
+    "rs 0",
+    "rs 0 1 2",
+    "as 1",
+    "f1 1",
+    "crash 0",
+    "add 4",
+    "add 4g",
+    "replay 123",
+    "push -1",
+    "push 18446744073709551616",
+    "pop x",
+    "land",
+    "again",
+    "loc 40960",
+    "cl +1",
+    "noop noop",
+    "freeze 1",
+    "Add 41",
+    "disk 8 4096",
+];
+
+impl Iterator for Day {
+    type Item = String;
+
+    fn next(&mut self) -> Option<String> {
+        if let Some(first) = self.first.take() {
+            return Some(first);
+        }
+        let scripted = self.script.pop_front();
+        let showing = scripted.is_some();
+        let step = match scripted {
+            Some(step) => step,
+            None => {
+                self.left = self.left.checked_sub(1)?;
+                if self.rng.one_in(300) {
+                    return Some(self.rng.of(NONSENSE).to_string());
+                }
+                self.choose()
+            }
+        };
+        let refused = self.store.step(&step).is_err();
+        if let Some(ledger) = &mut self.ledger {
+            ledger.feed(&step, refused);
+        }
+        if self.options.ledger && !showing && !refused && step == Step::Crash {
+            self.script = self.ledger.as_ref().map(|l| self.showing(l)).unwrap_or_default();
+        }
+        Some(step.to_string())
+    }
+}

@@ -1,0 +1,46 @@
+//! A second supplier's fermentation store: the journal, its commit machine and its disk,
+//! written from document 01 and the five Dafny files alone.
+#![forbid(unsafe_code)]
+
+pub mod days;
+pub mod disk;
+pub mod layout;
+pub mod ledger;
+pub mod machine;
+pub mod range;
+pub mod store;
+pub mod superblock;
+pub mod text;
+pub mod trace;
+
+#[cfg(test)]
+mod tests;
+
+/// Document 01's questions; the one answered no is the refusal.
+#[derive(Clone, Copy, Debug, PartialEq, Eq)]
+pub enum Refusal {
+    Sizes = 1,
+    State = 2,
+    Kind = 3,
+    Argument = 4,
+    Id = 5,
+    Condition = 6,
+    Parse = 7,
+    Room = 8,
+    SecondId = 9,
+}
+
+impl Refusal {
+    pub fn number(self) -> u8 {
+        self as u8
+    }
+}
+
+/// Asks one question: `Ok` on a yes, `no` otherwise.
+fn ask(yes: bool, no: Refusal) -> Result<(), Refusal> {
+    if yes {
+        Ok(())
+    } else {
+        Err(no)
+    }
+}

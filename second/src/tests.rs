@@ -1,0 +1,325 @@
+//! Document 01's brew day, its wrong turns, and demand 3 on random days.
+
+use crate::days::{Day, Options, Rng};
+use crate::disk::{Disk, Journal, Op};
+use crate::layout::{Geometry, Interval, Location, BLOCK};
+use crate::ledger::Ledger;
+use crate::machine::{Phase, Piece, Slot};
+use crate::range::{self, Entry};
+use crate::store::{Step, Store};
+use crate::superblock::Superblock;
+use crate::text::{parse_disk, parse_step};
+use crate::{trace, Refusal};
+
+fn g() -> Geometry {
+    Geometry::new(8, 4096).unwrap()
+}
+
+fn superblock(counter: u64) -> Superblock {
+    Superblock { counter, start: 0, len: 0, table: Location { addr: 40_960, len: 4096 } }
+}
+
+fn select(a: u64, b: u64) -> usize {
+    Superblock::select(&[superblock(a), superblock(b)])
+}
+
+/// A store, played by lines; the refusals it gave.
+fn play(store: &mut Store, day: &str) -> Vec<u8> {
+    let steps = day.split(',').map(|line| parse_step(line.as_bytes()).expect("a step"));
+    steps.map(|s| store.step(&s).err().map_or(0, Refusal::number)).collect()
+}
+
+const LOAD: &str = "rs 0 1, rs 1 2, as 0 1, as 1 2, f1, f2";
+
+fn loaded() -> Store {
+    let mut store = Store::new(g(), [superblock(0); 2]);
+    assert_eq!(play(&mut store, LOAD), [0; 6]);
+    store
+}
+
+#[test]
+fn positions_and_pieces() {
+    assert_eq!((g().advance(6, 2), g().advance(6, 1)), (0, 7));
+    let pieces = |s, l| (g().front(Interval::new(s, l)), g().back(Interval::new(s, l)));
+    assert_eq!(pieces(6, 5), (Some(Interval::new(6, 2)), Some(Interval::new(0, 3))));
+    assert_eq!(pieces(6, 2), (Some(Interval::new(6, 2)), None));
+    assert_eq!(pieces(6, 0), (None, None));
+}
+
+#[test]
+fn overlaps() {
+    let overlap = |a: (u64, u64), b: (u64, u64)| {
+        let (a, b) = (Interval::new(a.0, a.1), Interval::new(b.0, b.1));
+        assert_eq!(g().overlap(a, b), g().overlap(b, a));
+        g().overlap(a, b)
+    };
+    assert!(overlap((6, 4), (1, 1)));
+    assert!(!overlap((6, 4), (2, 4)));
+    assert!(overlap((3, 0), (1, 4)));
+    assert!(!overlap((0, 0), (6, 4)), "empty at block 0 of one that wraps");
+    assert!(overlap((7, 2), (5, 4)));
+    assert!(g().subinterval(Interval::new(0, 2), Interval::new(6, 5)));
+    assert!(!g().subinterval(Interval::new(3, 1), Interval::new(6, 5)));
+    for i in 0..8 {
+        assert_eq!(
+            g().contains(Interval::new(6, 5), i),
+            g().ring(Interval::new(6, 5)).any(|b| b as u64 == i)
+        );
+    }
+}
+
+#[test]
+fn selection() {
+    assert_eq!([select(7, 8), select(7, 7), select(7, 9), select(u64::MAX, 0)], [1, 0, 0, 1]);
+    assert_eq!(select(8, 7), 0);
+    assert_eq!(select(0, u64::MAX), 0, "the larger counter is a wrong turn");
+}
+
+#[test]
+fn tables() {
+    let valid = |addr, len| g().valid_table(Location { addr, len });
+    assert_eq!(g().tables(), [40_960, 45_056]);
+    assert_eq!([4096, 0, 4097].map(|len| valid(40_960, len)), [true, false, false]);
+    assert!(valid(45_056, 1) && !valid(40_961, 1) && !valid(8192, 1));
+}
+
+#[test]
+fn ranges() {
+    let mut bytes = vec![1, 0, 1, 0, 1, 0x41];
+    bytes.resize(BLOCK, 0);
+    assert_eq!(range::write(&[vec![0x41]]), bytes);
+    let sixteen = |last| [255; 15].into_iter().chain([last]).map(|len| vec![3; len]).collect::<Vec<Entry>>();
+    assert_eq!([251, 252].map(|last| range::blocks(&sixteen(last))), [1, 2]);
+    let both = [range::write(&sixteen(252)), bytes.clone()].concat();
+    assert_eq!(range::read(&both).unwrap().len(), 17);
+    assert_eq!(range::read(&[]), Some(vec![]));
+    // A block too many, no entries, a length of 0, a tail that isn't 0, a range cut off.
+    for (at, wrong) in [(0, 2), (0, 0), (2, 0), (2, 3), (4, 0), (4095, 1), (3, 5)] {
+        let mut other = bytes.clone();
+        other[at] = wrong;
+        assert_eq!(range::read(&other), None, "byte {at} is {wrong}");
+    }
+    assert_eq!(range::read(&both[..BLOCK]), None);
+    let padded = [&[2], &bytes[1..], &[0; BLOCK][..]].concat();
+    assert_eq!(range::read(&padded), None, "not the fewest blocks");
+    let most = vec![vec![5; 64]; 1024];
+    assert_eq!(range::read(&range::write(&most)), Some(most.clone()));
+    assert_eq!(range::read(&range::write(&[most, vec![vec![1]]].concat())), None, "1,025 entries");
+}
+
+#[test]
+fn brewday() {
+    let day = format!("{LOAD}, add 41, wj 3, aj 3, cl 4, land 1, crash");
+    let mut store = Store::new(g(), [superblock(0); 2]);
+    let mut output = String::from("n r k c s l w\n");
+    for (n, line) in (1..).zip(day.split(',')) {
+        let result = store.step(&parse_step(line.as_bytes()).unwrap());
+        let row = trace::row(n, result, &store);
+        output += &row.split(' ').take(7).collect::<Vec<_>>().join(" ");
+        output += "\n";
+    }
+    let expected = "n r k c s l w
+1 0 S - - - -
+2 0 S - - - -
+3 0 S - - - -
+4 0 S - - - -
+5 0 O 0 0 0 -
+6 0 R 0 0 0 0
+7 0 R 0 0 0 0
+8 0 R 0 0 0 1
+9 0 R 0 0 0 1
+10 0 R 0 0 0 1
+11 0 R 0 0 0 1
+12 0 S - - - -
+";
+    assert_eq!(output, expected);
+}
+
+#[test]
+fn trace_text() {
+    let day = b"disk 1 1 0 0 0 12288 1 0 0 0 12288 1\nrs 0 1\nbrew\nnoop";
+    let mut output = vec![];
+    assert!(trace::run(&day[..], &mut output).unwrap());
+    let output = String::from_utf8(output).unwrap();
+    let rows: Vec<&str> = output.lines().collect();
+    assert_eq!(rows[0], trace::HEADER);
+    assert_eq!(rows[2], "line 2 is not a step");
+    // The check number by its definition, a byte at a time.
+    let slot = [0u64, 0, 0, 12288, 1].map(u64::to_le_bytes).concat();
+    let bytes = [slot.clone(), slot, vec![0]].concat();
+    let h = bytes.iter().fold(0u64, |h, b| (h * 257 + u64::from(*b) + 1) % 4_294_967_291);
+    assert_eq!(rows[1], format!("1 0 S - - - - - - - - - - 0 0 0 {h}"));
+    assert_eq!(rows[3], format!("3 0 S - - - - - - - - - - 0 0 0 {h}"));
+    for bad in ["", "disk", "disk 33 1 0 0 0 0 0 0 0 0 0 0", "disk 8 0 0 0 0 0 0 0 0 0 0 0", "noop"] {
+        let mut output = vec![];
+        assert!(!trace::run(bad.as_bytes(), &mut output).unwrap());
+        assert_eq!(output, b"line 0 is not a disk\n");
+    }
+}
+
+#[test]
+fn sync_requests_move_at_the_answer() {
+    let mut store = loaded();
+    let counts = |store: &Store| {
+        trace::row(1, Ok(()), store).split(' ').skip(13).take(3).map(String::from).collect::<Vec<_>>()
+    };
+    assert_eq!(play(&mut store, "push 9, add 41, wj 3, aj 3"), [0; 4]);
+    assert_eq!(counts(&store), ["0", "1", "0"]);
+    assert_eq!(play(&mut store, "pop 9, cl 4, ac 4, land 0, land 1, pop 9"), [6, 0, 6, 6, 0, 6]);
+    assert_eq!(counts(&store), ["0", "1", "0"]);
+    assert_eq!(play(&mut store, "ac 4, pop 9, pop 9"), [0, 0, 5]);
+}
+
+#[test]
+fn refusals() {
+    let mut s = Store::new(g(), [superblock(0); 2]);
+    assert_eq!(
+        play(&mut s, "rs 2 1, rs 0 1, rs 1 1, rs 0 1, again 0, xs 0 1, again 0"),
+        [4, 0, 5, 6, 6, 0, 0]
+    );
+    assert_eq!(play(&mut s, "f1, add 41, f2, as 1 1, as 2 1, land 2, crash"), [6, 3, 3, 5, 4, 4, 0]);
+    let mut s = loaded();
+    assert_eq!(play(&mut s, "wj 1, add, wj 1, add 41, wj 1 2, wj 1, aj 2, wj 1"), [6, 0, 6, 0, 9, 0, 5, 6]);
+    assert_eq!(
+        play(&mut s, "add 42, wj 1, cl 4, aj 1, wj 1, aj 1, cl 1, wj 2, freeze"),
+        [0, 5, 6, 0, 0, 0, 0, 6, 6]
+    );
+    assert_eq!(
+        play(&mut s, "land 1, ac 1, loc 45056 1, freeze, loc 45057 1, loc 45056 1"),
+        [0, 0, 6, 0, 4, 0]
+    );
+    assert_eq!(
+        play(&mut s, "co 3, loc 45056 1, land 0, land 0, ac 3, freeze, loc 45056 1, freeze"),
+        [0, 6, 0, 0, 0, 0, 0, 6]
+    );
+    let mut full = loaded();
+    for id in 0..32 {
+        assert_eq!(full.step(&Step::Push { id }), Ok(()));
+    }
+    assert_eq!(play(&mut full, "push 31, push 32"), [5, 8]);
+    let ill = Superblock { len: 9, ..superblock(0) };
+    assert_eq!(play(&mut Store::new(g(), [superblock(0), ill]), "noop, crash"), [2, 2]);
+}
+
+#[test]
+fn a_loaded_journal_must_parse() {
+    let slots = [Superblock { start: 7, len: 2, ..superblock(0) }, superblock(5)];
+    let mut s = Store::new(g(), slots);
+    let load = "rs 0 1, rs 1 2, as 0 1, as 1 2, f1, rj 0 1, rj 1 1, rj 1 2, ar 1, ar 2";
+    assert_eq!(play(&mut s, load), [0, 0, 0, 0, 0, 0, 5, 0, 6, 6]);
+    s.disk.journal.marks = vec![true; 8];
+    assert_eq!(play(&mut s, "xr 1, rj 0 1, ar 1, ar 2, f2"), [0, 0, 0, 0, 7]);
+    assert!(
+        matches!(&s.machine.phase, Phase::Journal(l) if matches!(l.pieces, [Piece::In(_), Piece::In(_)]))
+    );
+}
+
+#[test]
+fn a_disk_alone() {
+    let mut disk = Disk::new(g(), [None; 2], Journal::empty(g()));
+    for id in 0..8 {
+        let op = Op::ReadSuperblock { which: 1, id };
+        assert_eq!(disk.ask(&op), Ok(()));
+        disk.take(op);
+    }
+    assert_eq!(disk.ask(&Op::ReadSuperblock { which: 1, id: 8 }), Err(Refusal::Room));
+    assert_eq!(disk.ask(&Op::ReadSuperblock { which: 0, id: 7 }), Err(Refusal::Id));
+    assert_eq!(disk.ask(&Op::SuperblockRead { which: 1, id: 7, whole: true }), Err(Refusal::Condition));
+    let write = |start, second| Op::WriteJournal { id: 1, second, start, range: vec![0; 2 * BLOCK] };
+    let asked = [(6, None), (6, Some(2)), (7, None), (7, Some(1)), (7, Some(2)), (8, None)];
+    let no = Err(Refusal::SecondId);
+    assert_eq!(
+        asked.map(|(s, id2)| disk.ask(&write(s, id2))),
+        [Ok(()), no, no, no, Ok(()), Err(Refusal::Argument)]
+    );
+}
+
+fn reload(store: &mut Store) {
+    for line in ["rs 0 1", "rs 1 2", "as 0 1", "as 1 2", "f1"] {
+        assert_eq!(play(store, line), [0]);
+    }
+    let Phase::Journal(loading) = &store.machine.phase else { panic!("not loading") };
+    for (which, _) in (0..).zip(loading.intervals(store.geometry)).filter(|(_, i)| i.is_some()) {
+        assert_eq!(play(store, &format!("rj {which} 3, ar 3")), [0, 0]);
+    }
+    assert_eq!(play(store, "f2"), [0]);
+}
+
+/// Question 2 of a system: the machine awaits what the disk holds, and writes in flight lie apart.
+fn sound(store: &Store) -> bool {
+    let (g, d) = (store.geometry, &store.disk);
+    let slot = |which: usize| d.superblock_reads[which].iter().copied().collect::<Vec<_>>();
+    let reads: Vec<_> = d.journal_reads.iter().map(|(id, i)| (*id, *i)).collect();
+    let writes: Vec<_> = d.journal_writes.iter().map(|(id, i)| (*id, *i)).collect();
+    let (mut asked, mut awaited, mut written) = ([vec![], vec![]], vec![], Vec::<u64>::new());
+    let mut landing = [None; 2];
+    match &store.machine.phase {
+        Phase::Superblocks(slots) => {
+            for (which, slot) in slots.iter().enumerate() {
+                match slot {
+                    Slot::Asked(id) => asked[which].push(*id),
+                    Slot::Read(s) if Some(*s) != d.slots[which] => return false,
+                    _ => {}
+                }
+            }
+        }
+        Phase::Journal(l) => {
+            for (piece, interval) in l.pieces.iter().zip(l.intervals(g)) {
+                if let Piece::Asked(id) = piece {
+                    awaited.push((*id, interval.unwrap()));
+                }
+            }
+            awaited.sort_by_key(|(id, _)| *id);
+        }
+        Phase::Ready(r) => {
+            written.extend(&r.outstanding);
+            landing[1 - r.which] = r.commit.map(|c| (c.id, c.superblock));
+            let selected = Superblock::select(&d.slots.map(Option::unwrap));
+            let journal = d.slots[selected].unwrap().journal();
+            for (k, (_, i)) in writes.iter().enumerate() {
+                let others = writes[..k].iter().any(|(_, j)| g.overlap(*i, *j));
+                if others || !g.contiguous(*i) || g.ring(journal).any(|b| g.contains(*i, b as u64)) {
+                    return false;
+                }
+            }
+        }
+    }
+    asked == [slot(0), slot(1)]
+        && awaited == reads
+        && written == writes.iter().map(|(id, _)| *id).collect::<Vec<_>>()
+        && landing == d.superblock_writes
+}
+
+/// Demand 3: after a crash with any picture, a load shows the ledger. A refusal alters nothing.
+#[test]
+fn loads_show_the_ledger() {
+    let mut pictured = 0;
+    for seed in 1..=300 {
+        let mut rng = Rng::new(seed ^ 0xb4e3);
+        let mut day = Day::new(seed, Options { steps: 300, ledger: false, ill: false });
+        let (g, slots) = parse_disk(day.next().unwrap().as_bytes()).unwrap();
+        let Some(mut ledger) = Ledger::new(g, slots) else { continue };
+        let mut store = Store::new(g, slots);
+        for (n, line) in (1..).zip(day) {
+            let Some(step) = parse_step(line.as_bytes()) else { continue };
+            assert_eq!(step.to_string(), line);
+            let before = store.clone();
+            let refused = store.step(&step).is_err();
+            assert!(!refused || store == before, "seed {seed}, step {n}: a refusal altered the store");
+            assert!(sound(&store), "seed {seed}, step {n}");
+            ledger.feed(&step, refused);
+            if n % 10 == 0 {
+                let picture = Journal {
+                    blocks: (0..g.n()).map(|_| rng.bytes(BLOCK).try_into().unwrap()).collect(),
+                    marks: (0..g.n()).map(|_| rng.below(2) == 0).collect(),
+                };
+                pictured += usize::from(!store.disk.journal_writes.is_empty());
+                let mut copy = store.clone();
+                copy.crash(Some(&picture));
+                reload(&mut copy);
+                assert!(ledger.shown_by(&copy), "seed {seed}, step {n}");
+            }
+        }
+    }
+    assert!(pictured > 100);
+}

@@ -1,0 +1,134 @@
+//! The trace: a day in, one row a step out.
+
+use std::fmt::Write as _;
+use std::io::{self, BufRead, BufReader, BufWriter, Read, Write};
+
+use crate::machine::{Phase, Piece, Sync};
+use crate::range::Entry;
+use crate::store::Store;
+use crate::superblock::Superblock;
+use crate::text::{parse_disk, parse_step};
+use crate::Refusal;
+
+pub const HEADER: &str = "n r k c s l w z f p m o y q1 q2 q3 h";
+
+/// The check number: each byte b by h = (h * 257 + b + 1) mod 4,294,967,291.
+#[derive(Default)]
+struct Check(u64);
+
+impl Check {
+    const MODULUS: u64 = 4_294_967_291;
+
+    fn bytes(&mut self, bytes: &[u8]) {
+        // Three bytes fit 64 bits before the remainder must be taken.
+        let mut chunks = bytes.chunks_exact(3);
+        for c in &mut chunks {
+            let low = (u64::from(c[0]) + 1) * 257 * 257 + (u64::from(c[1]) + 1) * 257 + u64::from(c[2]) + 1;
+            self.0 = (self.0 * (257 * 257 * 257) + low) % Self::MODULUS;
+        }
+        for b in chunks.remainder() {
+            self.0 = (self.0 * 257 + u64::from(*b) + 1) % Self::MODULUS;
+        }
+    }
+
+    fn entries<'a>(&mut self, entries: impl Iterator<Item = &'a Entry> + Clone) {
+        entries.clone().for_each(|e| self.bytes(&(e.len() as u16).to_le_bytes()));
+        entries.for_each(|e| self.bytes(e));
+    }
+}
+
+/// The check number of the store's whole visible content.
+pub fn check(store: &Store) -> u64 {
+    let mut h = Check::default();
+    let disk = &store.disk;
+    for x in disk.slots.iter().flatten().flat_map(Superblock::numbers) {
+        h.bytes(&x.to_le_bytes());
+    }
+    for (mark, block) in disk.journal.marks.iter().zip(&disk.journal.blocks) {
+        h.bytes(&[u8::from(*mark)]);
+        if *mark {
+            h.bytes(block);
+        }
+    }
+    match &store.machine.phase {
+        Phase::Superblocks(_) => {}
+        Phase::Journal(loading) => {
+            for piece in &loading.pieces {
+                if let Piece::In(bytes) = piece {
+                    h.bytes(bytes);
+                }
+            }
+        }
+        Phase::Ready(r) => {
+            h.entries(r.frozen.iter().chain(&r.memory));
+            h.entries(r.replay_left().iter());
+        }
+    }
+    h.0
+}
+
+/// The row after step `n` with its result.
+pub fn row(n: u64, result: Result<(), Refusal>, store: &Store) -> String {
+    let refusal = result.err().map_or(0, Refusal::number);
+    let mut row = match &store.machine.phase {
+        Phase::Superblocks(_) => format!("{n} {refusal} S - - - - - - - - - -"),
+        Phase::Journal(l) => {
+            let s = l.superblock;
+            format!("{n} {refusal} O {} {} {} - - - - - - -", s.counter, s.start, s.len)
+        }
+        Phase::Ready(r) => {
+            let s = r.superblock;
+            format!(
+                "{n} {refusal} R {} {} {} {} {} {} {} {} {} {}",
+                s.counter,
+                s.start,
+                s.len,
+                r.written,
+                u8::from(r.is_frozen),
+                r.frozen_position,
+                r.frozen.len(),
+                r.memory.len(),
+                r.outstanding.len(),
+                r.replay_left().len()
+            )
+        }
+    };
+    for state in [Sync::State1, Sync::State2, Sync::State3] {
+        let count = store.machine.sync.values().filter(|s| **s == state).count();
+        let _ = write!(row, " {count}");
+    }
+    let _ = write!(row, " {}", check(store));
+    row
+}
+
+/// Plays a day, line by line; rows go out as soon as no more input is at hand.
+/// False where the first line isn't a disk.
+pub fn run(input: impl Read, output: impl Write) -> io::Result<bool> {
+    let mut input = BufReader::with_capacity(1 << 16, input);
+    let mut output = BufWriter::with_capacity(1 << 16, output);
+    let mut line = Vec::new();
+    input.read_until(b'\n', &mut line)?;
+    let Some((geometry, slots)) = parse_disk(&line) else {
+        writeln!(output, "line 0 is not a disk")?;
+        return output.flush().map(|()| false);
+    };
+    let mut store = Store::new(geometry, slots);
+    writeln!(output, "{HEADER}")?;
+    for n in 1.. {
+        if input.buffer().is_empty() {
+            output.flush()?;
+        }
+        line.clear();
+        if input.read_until(b'\n', &mut line)? == 0 {
+            break;
+        }
+        match parse_step(&line) {
+            Some(step) => {
+                let result = store.step(&step);
+                writeln!(output, "{}", row(n, result, &store))?;
+            }
+            None => writeln!(output, "line {n} is not a step")?,
+        }
+    }
+    output.flush().map(|()| true)
+}
