@@ -14,12 +14,17 @@ use Rattle.laws.specs.Part.{getD-tab, getD-map-in}
 use Rattle.layout.specs.declared.geometry.Geometry.{Geometry}
 use Rattle.layout.specs.Geometry.{ValidGeometry}
 use Rattle.interval.specs.Journal.{JournalBlock}
-use Rattle.journal.specs.Memory.{isMark, isOne}
+use Rattle.journal.specs.Memory.{isMark, isOne, askJournal}
+use Rattle.journal.specs.Asked.{journal-blocks, journal-marks}
 use Rattle.journal.specs.Cells.{blockAt, blocksIn, cells, length-cells, cell-at}
 use Rattle.journal.specs.Blocks.{flat-size, blocks-flat}
 use Rattle.codec.specs.Codec.{Sized}
 use Rattle.source.specs.Within.{Picture}
 use Rattle.refine.specs.Disk.View.{Lent}
+
+-- lent blocks and marks that pass question 1
+pub journal-lent : (g : Geometry) (blocks marks : List ℕ) → askJournal g blocks marks ≡ 0 → Lent g blocks marks
+journal-lent g blocks marks e = record { blocks-right = journal-blocks g blocks marks e; marks-right = journal-marks g blocks marks e }
 
 -- the bytes and the mark of a block; one that is not readable is zeros
 abbrev pub bytesIn : Option JournalBlock → JournalBlock

@@ -34,13 +34,8 @@ use Rattle.store.specs.Step.{withPending, addedLent}
 use Rattle.refine.specs.Machine.ReadyForm as form
 use Rattle.refine.specs.Machine.MachineEntries.{asked-entries, advance-clauses}
 use Rattle.refine.specs.Store.Seen.{seen, SizedStore, store-met, callOf, entriesCall}
+use Rattle.refine.specs.Store.Plain.{entries-is}
 use Rattle.refine.specs.Store.Taken.{answered-takes, machine-takes}
-
--- entries that are there make the call
-pub entries-call : (brought sizes : List ℕ) (k : ℕ) (x : Call) → form.Given brought sizes k → entriesCall brought sizes k x ≡ x
-entries-call brought sizes k x h =
-    ap (λ (b : Bool). cond b x ledger.nonsense)
-    (also-both (leb k (length sizes)) (leb (total sizes k) (length brought)) (le-leb k (length sizes) (h .there)) (le-leb (total sizes k) (length brought) (h .fit)))
 
 module _ (g : Geometry) (l : Lent) (v : Given) (s : Store) (k : ℕ) where
   abbrev b : Bodies
@@ -67,7 +62,7 @@ module _ (g : Geometry) (l : Lent) (v : Given) (s : Store) (k : ℕ) where
   add-tied : q ≡ 0 → Tied (callOf v (step.Advance k)) (MachineStep D.NoDiskOp (Source (AdvanceStep (view (v .brought) (v .sizes) k))))
   add-tied e =
       subst (λ (x : Call). Tied x (MachineStep D.NoDiskOp (Source (AdvanceStep (view (v .brought) (v .sizes) k)))))
-      (sym (entries-call (v .brought) (v .sizes) k (ledger.add (view (v .brought) (v .sizes) k)) (given-there e))) tied-add
+      (sym (entries-is (v .brought) (v .sizes) k (ledger.add (view (v .brought) (v .sizes) k)) (given-there e))) tied-add
 
   pub add-takes : (z : SizedStore s) → askStore g l s ≡ 0 → (o : DiskOp) → add g s b (v .brought) (v .sizes) k .answer ≡ answer.Next o
       → Takes g format limits (seen g l s) (seen g (addedLent l v s k q b) (add g s b (v .brought) (v .sizes) k .store)) (callOf v (step.Advance k))

@@ -3,7 +3,6 @@ use mathlib.Core.Path.{_≡_, subst}
 use Rattle.layout.specs.declared.geometry.Geometry.{Geometry}
 use Rattle.codec.specs.Format.{format}
 use Rattle.journal.specs.Memory.{askJournal}
-use Rattle.journal.specs.Asked.{journal-blocks, journal-marks}
 use Rattle.journal.specs.Cells.{cells}
 use Rattle.source.specs.JournalDisk as D
 use Rattle.source.specs.Limits.{limits}
@@ -17,17 +16,13 @@ use Rattle.store.specs.declared.calls.Step.the-variants as step
 use Rattle.store.specs.Lent.{Lent, Given, machineLent, askStore}
 use Rattle.store.specs.Steps.{crashed}
 use Rattle.store.specs.Step.{withJournal}
-use Rattle.refine.specs.Disk.View as disk
 use Rattle.refine.specs.Disk.View.{diskOf}
+use Rattle.refine.specs.Disk.Picture.{journal-lent}
 use Rattle.refine.specs.Disk.Crash.{crash-clauses}
 use Rattle.refine.specs.Machine.MachineInitial.{initial-seen}
 use Rattle.refine.specs.Store.Seen.{seen, SizedStore, store-met, met-system, callOf}
 
 module _ (g : Geometry) (l : Lent) (v : Given) (s : Store) (z : SizedStore s) (e : askStore g l s ≡ 0) where
-  -- the picture's memory, of a yes to its question 1
-  pictured-lent : askJournal g (v .picture) (v .pictured) ≡ 0 → disk.Lent g (v .picture) (v .pictured)
-  pictured-lent q = record { blocks-right = journal-blocks g (v .picture) (v .pictured) q; marks-right = journal-marks g (v .picture) (v .pictured) q }
-
   pub crash-takes : askJournal g (v .picture) (v .pictured) ≡ 0
       → Takes g format limits (seen g l s)
       (seen g (withJournal l (crashedBlocks (s .disk .journalWrites) (v .picture) (l .blocks)) (crashedMarks (s .disk .journalWrites) (v .pictured) (l .marks))) (crashed s))
@@ -43,7 +38,7 @@ module _ (g : Geometry) (l : Lent) (v : Given) (s : Store) (z : SizedStore s) (e
               step =
                   record {
                     machine = initial-seen g (machineLent l);
-                    disk = crash-clauses g (s .disk) (v .picture) (v .pictured) (l .blocks) (l .marks) (z .disk) (m .disk) (pictured-lent q);
+                    disk = crash-clauses g (s .disk) (v .picture) (v .pictured) (l .blocks) (l .marks) (z .disk) (m .disk) (journal-lent g (v .picture) (v .pictured) q);
                   };
             };
       }

@@ -37,11 +37,15 @@ form-met g l s z f m =
 pub form-asks : (g : Geometry) (l : Lent) (s : Store) → SizedStore s → StoreForm g l s → SystemMeets g limits (seen g l s) → askStore g l s ≡ 0
 form-asks g l s z f m = met-store g l s z (form-met g l s z f m)
 
+-- a call that is taken, and the next store is seen as t
+pub record TakenTo (g : Geometry) (l : Lent) (v : Given) (s : Store) (x : Step) (t : Y.Variables) : Type 0 where
+  pub op : DiskOp
+  pub taken : stepped g l v s x .answer ≡ answer.Next op
+  pub next : seen g (steppedLent g l v s x) (stepped g l v s x .store) ≡ t
+
 -- a call that takes the event to the state t
 pub record Done (g : Geometry) (l : Lent) (s : Store) (t : Y.Variables) (event : Event) : Type 0 where
   pub call : Step
   pub given : Given
-  pub op : DiskOp
   pub tied : Tied (callOf given call) event
-  pub taken : stepped g l given s call .answer ≡ answer.Next op
-  pub next : seen g (steppedLent g l given s call) (stepped g l given s call .store) ≡ t
+  pub to : TakenTo g l given s call t

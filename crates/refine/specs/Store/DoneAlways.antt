@@ -26,7 +26,8 @@ use Rattle.refine.specs.Disk.SuperblockWrites.{clauses-land}
 use Rattle.refine.specs.Machine.MachineSync.{clauses-push, clauses-pop}
 use Rattle.refine.specs.Store.Seen.{seen, SizedStore}
 use Rattle.refine.specs.Store.Done.{StoreForm, Done}
-use Rattle.refine.specs.Store.Doing.{nothing, tied-named, tied-op, answered-done, both-done}
+use Rattle.refine.specs.Store.DoneBy.{done-by}
+use Rattle.refine.specs.Store.Doing.{nothing, tied-named, tied-op, both-done}
 
 module _ (g : Geometry) (l : Lent) (s : Store) (z : SizedStore s) (f : StoreForm g l s) (t : Y.Variables) where
   -- PushSyncReq, PopSyncReq
@@ -72,7 +73,7 @@ module _ (g : Geometry) (l : Lent) (s : Store) (z : SizedStore s) (f : StoreForm
       let e = clauses-land g (s .disk) n (l .blocks) (l .marks) (which-in which) (t .disk)
       (subst (D.ProcessWriteSuperblock (seen g l s .disk) (t .disk)) (sym (bit-which which)) d) in
       let after : Store = store (s .machine) (landNext (s .disk) n) in
-      answered-done g l s z f t (a .meets) (DiskInternalStep (D.ProcessWriteSuperblockStep which)) (step.Land n) nothing op.NoDiskOp after l
+      done-by g l s z f (a .meets) t (DiskInternalStep (D.ProcessWriteSuperblockStep which)) (step.Land n) nothing op.NoDiskOp after l
       (tied-named which ledger.land (DiskInternalStep (D.ProcessWriteSuperblockStep which)) Tied.tied-land)
       refl
       (asked-next (askLand (s .disk .superblockWrites) n) op.NoDiskOp after s (e .0))

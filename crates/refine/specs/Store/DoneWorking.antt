@@ -1,12 +1,11 @@
 -- Completeness of a store at work: freeze, a location, both commits, replay, and the answer of a journal write.
 use Prim.Native.Nat.{ℕ, _≤_}
 use mathlib.Core.Bool.{Bool, true, false, cond}
-use mathlib.Core.Path.{refl, sym, subst}
+use mathlib.Core.Path.{_≡_, refl, sym, subst}
 use mathlib.Core.List.{List, []}
 use native.Mathlib.Omega.{arith}
 use lib.Dec.{eqb}
 use lib.ListN.{length}
-use Rattle.laws.specs.Cut.{flat, lengths}
 use Rattle.layout.specs.declared.geometry.Geometry.{Geometry}
 use Rattle.layout.specs.declared.location.Location.{Location}
 use Rattle.superblock.specs.declared.disk_op.DiskOp.the-variants as op
@@ -20,17 +19,17 @@ use Rattle.source.specs.JournalDisk as D
 use Rattle.source.specs.JournalCache as M
 use Rattle.source.specs.JournalCache.{WriteBackJournalRespStep, WriteBackSuperblockReq-AdvanceLog-Step, WriteBackSuperblockReq-AdvanceLocation-Step, FreezeStep, ReceiveFrozenLocStep, ReplayStep}
 use Rattle.source.specs.JournalSystem as Y
-use Rattle.source.specs.Limits.{limits, StepLimits}
+use Rattle.source.specs.Limits.{limits}
 use Rattle.source.specs.Departures.{Source, MachineStep, Allowed}
 use Rattle.source.specs.Within.{Within}
 use Rattle.history.specs.Ledger as ledger
-use Rattle.history.specs.Ledger.{Call}
 use Rattle.history.specs.Statement.{Tied}
 use Rattle.machine.specs.Working.{writeBackJournalRespOp, writeBackJournalRespMachine, askAdvanceLogStep, advanceLogOp, advanceLogMachine, askAdvanceLocationStep, advanceLocationOp, advanceLocationMachine, askFreezeStep, freezeMachine, askReceiveFrozenLocStep, receiveFrozenLocMachine, askReplayStep, replayMachine}
 use Rattle.store.specs.declared.store.Store.{Store}
 use Rattle.store.specs.declared.calls.Step.the-variants as step
-use Rattle.store.specs.Lent.{Lent, Given, given, machineLent}
+use Rattle.store.specs.Lent.{Lent, Given, machineLent}
 use Rattle.store.specs.Step.{stepAnswerWith, stepLentWith, askPicture}
+use Rattle.refine.specs.Machine.ReadyForm as form
 use Rattle.refine.specs.Machine.MachineView.{operationOf}
 use Rattle.refine.specs.Machine.MachineEntries.{brought-view, brought-given}
 use Rattle.refine.specs.Machine.MachineWritten.{journal-resp-said, clauses-journal-resp}
@@ -38,9 +37,8 @@ use Rattle.refine.specs.Machine.MachineCommit.{clauses-log, clauses-loca
 use Rattle.refine.specs.Machine.MachineFreeze.{clauses-freeze, clauses-receive}
 use Rattle.refine.specs.Machine.MachineReplay.{clauses-replay}
 use Rattle.refine.specs.Store.Seen.{seen, SizedStore}
-use Rattle.refine.specs.Store.Plain.{entries-is}
-use Rattle.refine.specs.Store.Done.{StoreForm, Done}
-use Rattle.refine.specs.Store.Doing.{nothing, tied-op, both-done}
+use Rattle.refine.specs.Store.Done.{StoreForm, TakenTo, Done}
+use Rattle.refine.specs.Store.Doing.{nothing, bringing, tied-op, tied-bringing, both-taken, both-done}
 
 -- the slot of a commit is there
 commit-in : (r : Ready) → commitSlot r ≤ 1
@@ -49,10 +47,6 @@ commit-in r = go (eqb (r .whichSuperblock) 0)
     go : (b : Bool) → cond b 1 0 ≤ 1
     go true = omega arith
     go false = omega arith
-
--- entries as a call brings them
-abbrev bringing : List JournalEntry → Given
-bringing es = given (flat es) (lengths es) [] []
 
 module _ (g : Geometry) (l : Lent) (s : Store) (z : SizedStore s) (f : StoreForm g l s) (t : Y.Variables) (dop : D.DiskOp) where
   -- Freeze, ReceiveFrozenLoc
@@ -117,23 +111,30 @@ module _ (g : Geometry) (l : Lent) (s : Store) (z : SizedStore s) (f : StoreForm
       (n .1)
 
   -- Replay: the call brings the entries
-  replay-view : (es : List JournalEntry) → M.Replay (seen g l s .machine) (t .machine) dop es → M.Replay (seen g l s .machine) (t .machine) dop (view (flat es) (lengths es) (length es))
-  replay-view es a = subst (M.Replay (seen g l s .machine) (t .machine) dop) (sym (brought-view es)) a
+  pub replay-taken : (v : Given) (k : ℕ) → form.Given (v .brought) (v .sizes) k → Allowed g format limits (seen g l s) t (MachineStep dop (Source (ReplayStep (view (v .brought) (v .sizes) k))))
+      → Within g limits t (MachineStep dop (Source (ReplayStep (view (v .brought) (v .sizes) k))))
+      → TakenTo g l v s (step.Replay k) t × (dop ≡ D.NoDiskOp)
+  unfolding stepAnswerWith stepLentWith askPicture
+  replay-taken v k h a w =
+      let c = clauses-replay g (machineLent l) (s .machine) (v .brought) (v .sizes) k (f .machine) (a .meets .machine) h (w .arguments) (t .machine) dop (a .step .machine) in (
+        both-taken g l s z f t dop (Source (ReplayStep (view (v .brought) (v .sizes) k))) a w (step.Replay k) v
+        (askReplayStep (s .machine) (l .rbytes) (l .rlens) (v .brought) (v .sizes) k) op.NoDiskOp (replayMachine (s .machine) (countOf (memory (v .brought) (v .sizes) k)))
+        (record { answers = refl; keeps = refl; brings = refl }) tt tt
+        (c .0) (c .1) (c .2),
+        c .2,
+      )
 
   pub replay-done : (es : List JournalEntry) → Allowed g format limits (seen g l s) t (MachineStep dop (Source (ReplayStep es)))
       → Within g limits t (MachineStep dop (Source (ReplayStep es)))
       → Done g l s t (MachineStep dop (Source (ReplayStep es)))
-  unfolding stepAnswerWith stepLentWith askPicture
   replay-done es a w =
-      let k : ℕ = length es in
       let c =
-      clauses-replay g (machineLent l) (s .machine) (flat es) (lengths es) k (f .machine) (a .meets .machine) (brought-given es)
-      (subst (λ (xs : List JournalEntry). StepLimits limits (ReplayStep xs)) (sym (brought-view es)) (w .arguments))
-      (t .machine) dop (replay-view es (a .step .machine)) in
-      both-done g l s z f t dop (Source (ReplayStep es)) a w (step.Replay k) (bringing es)
-      (askReplayStep (s .machine) (l .rbytes) (l .rlens) (flat es) (lengths es) k) op.NoDiskOp (replayMachine (s .machine) (countOf (memory (flat es) (lengths es) k)))
-      (record { answers = refl; keeps = refl; brings = refl }) tt tt
-      (tied-op dop (Source (ReplayStep es)) D.NoDiskOp (c .2)
-      (subst (λ (x : Call). Tied x (MachineStep D.NoDiskOp (Source (ReplayStep es)))) (sym (entries-is (flat es) (lengths es) k (ledger.replay (view (flat es) (lengths es) k)) (brought-given es)))
-      (subst (λ (xs : List JournalEntry). Tied (ledger.replay xs) (MachineStep D.NoDiskOp (Source (ReplayStep es)))) (sym (brought-view es)) Tied.tied-replay)))
-      (c .0) (c .1) (c .2)
+      replay-taken (bringing es) (length es) (brought-given es)
+      (subst (λ (x : List JournalEntry). Allowed g format limits (seen g l s) t (MachineStep dop (Source (ReplayStep x)))) (sym (brought-view es)) a)
+      (subst (λ (x : List JournalEntry). Within g limits t (MachineStep dop (Source (ReplayStep x)))) (sym (brought-view es)) w) in
+      record {
+        call = step.Replay (length es);
+        given = bringing es;
+        tied = tied-op dop (Source (ReplayStep es)) D.NoDiskOp (c .1) (tied-bringing es ledger.replay (MachineStep D.NoDiskOp (Source (ReplayStep es))) Tied.tied-replay);
+        to = c .0;
+      }

@@ -29,7 +29,7 @@ use Rattle.store.specs.Lent.{given}
 use Rattle.store.specs.Step.{stepped, steppedLent}
 use Rattle.refine.specs.Machine.MachineEntries.{brought-view, brought-given}
 use Rattle.refine.specs.Store.Seen.{callOf}
-use Rattle.refine.specs.Store.Adding.{entries-call}
+use Rattle.refine.specs.Store.Plain.{entries-is}
 use Rattle.refine.specs.Store.Sound.{store-takes, store-refused}
 use Rattle.refine.specs.Store.History.{State, Made, Promise, isTaken, stateSeen, codeStore}
 use Rattle.refine.specs.Store.Done.{StoreForm, form-asks, Done}
@@ -127,9 +127,9 @@ made-heard ledger.finishOther = refl
 made-heard ledger.freeze = refl
 made-heard (ledger.receive loc) = refl
 made-heard (ledger.add es) =
-    entries-call (flat es) (lengths es) (length es) (ledger.add (view (flat es) (lengths es) (length es))) (brought-given es) ∙ ap ledger.add (brought-view es)
+    entries-is (flat es) (lengths es) (length es) (ledger.add (view (flat es) (lengths es) (length es))) (brought-given es) ∙ ap ledger.add (brought-view es)
 made-heard (ledger.replay es) =
-    entries-call (flat es) (lengths es) (length es) (ledger.replay (view (flat es) (lengths es) (length es))) (brought-given es) ∙ ap ledger.replay (brought-view es)
+    entries-is (flat es) (lengths es) (length es) (ledger.replay (view (flat es) (lengths es) (length es))) (brought-given es) ∙ ap ledger.replay (brought-view es)
 made-heard (ledger.pushSync id) = refl
 made-heard (ledger.popSync id) = refl
 made-heard ledger.noOp = refl
@@ -165,9 +165,9 @@ module _ (g : Geometry) where
               sized = sized-step g (s .lent) (d .given) (s .store) (s .sized) (d .call);
             };
         heard = called-once _ x (w .0 .event) (d .tied) (w .0 .tied);
-        promise = record { store-is = refl; lent-is = refl; taken-is = ap isTaken (sym (d .taken)) };
-        form = form-kept g (s .lent) (d .given) (s .store) (d .call) (d .op) (s .sized) (form-asks g (s .lent) (s .store) (s .sized) f (h .allowed .meets)) (d .taken);
-        ends = d .next;
+        promise = record { store-is = refl; lent-is = refl; taken-is = ap isTaken (sym (d .to .taken)) };
+        form = form-kept g (s .lent) (d .given) (s .store) (d .call) (d .to .op) (s .sized) (form-asks g (s .lent) (s .store) (s .sized) f (h .allowed .meets)) (d .to .taken);
+        ends = d .to .next;
       }
 
   -- a call that is allowed to no state is refused
