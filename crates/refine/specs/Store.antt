@@ -12,6 +12,7 @@ pub mod Always
 pub mod Loading
 pub mod Working
 pub mod Crashes
+pub mod InPlace
 pub mod Taken
 pub mod Adding
 pub mod Finishing
