@@ -51,3 +51,4 @@ pub mod Reach
 pub mod Runs
 pub mod Follows
 pub mod Day
+pub mod Exact

@@ -66,8 +66,8 @@ module _ (g : Geometry) (l : Lent) (v : Given) (s : Store) (k : ℕ) where
       let disk : seen g l s .disk ≡ t .disk = disk-same g (seen g l s .disk) (t .disk) dop (c .2) (a .step .disk) in
       let machine : seen g after next .machine ≡ t .machine = c .1 in (
         taken-asked g l s z f (a .meets) t (step.Advance k) v op.NoDiskOp next after
-        refl (andThen q 0) (andThen-both q 0 (c .0) refl) refl (lent-added (c .0))
-        (λ i. record { machine = machine i; disk = disk i }),
+            refl (andThen q 0) (andThen-both q 0 (c .0) refl) refl (lent-added (c .0))
+            (λ i. record { machine = machine i; disk = disk i }),
         c .2,
       )
 

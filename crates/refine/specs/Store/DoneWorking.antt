@@ -118,9 +118,9 @@ module _ (g : Geometry) (l : Lent) (s : Store) (z : SizedStore s) (f : StoreForm
   replay-taken v k h a w =
       let c = clauses-replay g (machineLent l) (s .machine) (v .brought) (v .sizes) k (f .machine) (a .meets .machine) h (w .arguments) (t .machine) dop (a .step .machine) in (
         both-taken g l s z f t dop (Source (ReplayStep (view (v .brought) (v .sizes) k))) a w (step.Replay k) v
-        (askReplayStep (s .machine) (l .rbytes) (l .rlens) (v .brought) (v .sizes) k) op.NoDiskOp (replayMachine (s .machine) (countOf (memory (v .brought) (v .sizes) k)))
-        (record { answers = refl; keeps = refl; brings = refl }) tt tt
-        (c .0) (c .1) (c .2),
+            (askReplayStep (s .machine) (l .rbytes) (l .rlens) (v .brought) (v .sizes) k) op.NoDiskOp (replayMachine (s .machine) (countOf (memory (v .brought) (v .sizes) k)))
+            (record { answers = refl; keeps = refl; brings = refl }) tt tt
+            (c .0) (c .1) (c .2),
         c .2,
       )
 
