@@ -1,38 +1,38 @@
 // A line as a step of the store.
-use super::words;
-use super::words::Parsed;
 use store::Step;
 use superblock::MaybeId;
+use words::Parsed;
+use words::Word;
 
 pub enum Command {
     Is(Step),
     Not,
 }
 
-fn with_id(input: &[u8], from: usize, to: usize, id: u64) -> Command {
-    if words::is(input, from, to, b"wj") {
+fn with_id(input: &[u8], w: Word, id: u64) -> Command {
+    if words::is(input, w, b"wj") {
         return Command::Is(Step::WriteBackJournalReq {
             id1: id,
             id2: MaybeId::NoId,
         });
     }
-    if words::is(input, from, to, b"aj") {
+    if words::is(input, w, b"aj") {
         return Command::Is(Step::WriteBackJournalResp { id });
     }
-    if words::is(input, from, to, b"cl") {
+    if words::is(input, w, b"cl") {
         return Command::Is(Step::AdvanceLog { id });
     }
-    if words::is(input, from, to, b"land") {
+    if words::is(input, w, b"land") {
         return Command::Is(Step::Land { which: id });
     }
     Command::Not
 }
 
-fn with_slot(input: &[u8], from: usize, to: usize, which: u64, id: u64) -> Command {
-    if words::is(input, from, to, b"rs") {
+fn with_slot(input: &[u8], w: Word, which: u64, id: u64) -> Command {
+    if words::is(input, w, b"rs") {
         return Command::Is(Step::PageInSuperblockReq { which, id });
     }
-    if words::is(input, from, to, b"as") {
+    if words::is(input, w, b"as") {
         return Command::Is(Step::PageInSuperblockResp {
             which,
             id,
@@ -42,14 +42,14 @@ fn with_slot(input: &[u8], from: usize, to: usize, which: u64, id: u64) -> Comma
     Command::Not
 }
 
-fn alone(input: &[u8], from: usize, to: usize) -> Command {
-    if words::is(input, from, to, b"f1") {
+fn alone(input: &[u8], w: Word) -> Command {
+    if words::is(input, w, b"f1") {
         return Command::Is(Step::FinishLoadingSuperblockPhase);
     }
-    if words::is(input, from, to, b"f2") {
+    if words::is(input, w, b"f2") {
         return Command::Is(Step::FinishLoadingOtherPhase);
     }
-    if words::is(input, from, to, b"crash") {
+    if words::is(input, w, b"crash") {
         return Command::Is(Step::CrashInPlace);
     }
     Command::Not
@@ -62,8 +62,8 @@ fn put(sizes: &mut [u16], k: u16) {
 }
 
 // The entry of an add: its bytes to `brought`, its length to `sizes`.
-fn entry(input: &[u8], from: usize, to: usize, brought: &mut [u8], sizes: &mut [u16]) -> Command {
-    let n = words::hex(input, from, to, brought);
+fn entry(input: &[u8], hex: Word, brought: &mut [u8], sizes: &mut [u16]) -> Command {
+    let n = words::hex(input, hex, brought, 0);
     let Parsed::Is(k) = n else {
         return Command::Not;
     };
@@ -76,44 +76,40 @@ fn entry(input: &[u8], from: usize, to: usize, brought: &mut [u8], sizes: &mut [
 
 fn two_words(
     input: &[u8],
-    from: usize,
-    to: usize,
-    second: usize,
-    end: usize,
+    w: Word,
+    second: Word,
     brought: &mut [u8],
     sizes: &mut [u16],
 ) -> Command {
-    if words::is(input, from, to, b"add") {
-        return entry(input, second, end, brought, sizes);
+    if words::is(input, w, b"add") {
+        return entry(input, second, brought, sizes);
     }
-    let n = words::decimal(input, second, end);
+    let n = words::decimal(input, second);
     let Parsed::Is(id) = n else {
         return Command::Not;
     };
-    with_id(input, from, to, id)
+    with_id(input, w, id)
 }
 
-fn three_words(
-    input: &[u8],
-    from: usize,
-    to: usize,
-    second: usize,
-    next: usize,
-    third: usize,
-    end: usize,
-) -> Command {
-    let w = words::decimal(input, second, next);
-    let Parsed::Is(which) = w else {
+fn three_words(input: &[u8], w: Word, second: Word, third: Word) -> Command {
+    let s = words::decimal(input, second);
+    let Parsed::Is(which) = s else {
         return Command::Not;
     };
-    let n = words::decimal(input, third, end);
+    let n = words::decimal(input, third);
     let Parsed::Is(id) = n else {
         return Command::Not;
     };
-    with_slot(input, from, to, which, id)
+    with_slot(input, w, which, id)
 }
 
-// The command of the line from one place up to another.
+// The word from a place up to the next space, or to the line's end.
+fn word_from(input: &[u8], from: usize, end: usize) -> Word {
+    let to = words::next(input, from, end, 32);
+    Word { from, to }
+}
+
+// The command of the line from one place up to another. Single spaces lie between its words; the third word is the rest of the line.
 pub(crate) fn parse(
     input: &[u8],
     from: usize,
@@ -121,15 +117,17 @@ pub(crate) fn parse(
     brought: &mut [u8],
     sizes: &mut [u16],
 ) -> Command {
-    let to = words::next(input, from, end, 32);
-    if end <= to {
-        return alone(input, from, end);
+    let first = word_from(input, from, end);
+    if end <= first.to {
+        return alone(input, first);
     }
-    let second = to + 1;
-    let next = words::next(input, second, end, 32);
-    if end <= next {
-        return two_words(input, from, to, second, end, brought, sizes);
+    let second = word_from(input, first.to + 1, end);
+    if end <= second.to {
+        return two_words(input, first, second, brought, sizes);
     }
-    let third = next + 1;
-    three_words(input, from, to, second, next, third, end)
+    let third = Word {
+        from: second.to + 1,
+        to: end,
+    };
+    three_words(input, first, second, third)
 }

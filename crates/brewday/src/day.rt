@@ -2,7 +2,6 @@
 use super::command;
 use super::command::Command;
 use super::row;
-use super::words;
 use layout::Geometry;
 use store::Store;
 
@@ -35,6 +34,48 @@ fn place_after(end: usize) -> usize {
     end + 1
 }
 
+// What a line comes to: its row, and the store after it. A line that isn't a command says so and alters nothing.
+fn play(
+    s: Store,
+    n: u64,
+    c: Command,
+    brought: &[u8],
+    sizes: &[u16],
+    bytes: &mut [u8],
+    lens: &mut [u16],
+    pieces: &mut [u8],
+    rbytes: &mut [u8],
+    rlens: &mut [u16],
+    blocks: &mut [u8],
+    marks: &mut [u8],
+) -> Store {
+    let Command::Is(x) = c else {
+        row::not_a_command(n);
+        return s;
+    };
+    let none = [0u8; 1];
+    let r = s.step(
+        geometry(),
+        x,
+        brought,
+        sizes,
+        &none,
+        &none,
+        bytes,
+        lens,
+        pieces,
+        rbytes,
+        rlens,
+        blocks,
+        marks,
+    );
+    let next = r.store;
+    let a = r.answer;
+    let m = next.machine;
+    row::print(n, a, m);
+    next
+}
+
 pub(crate) fn turn(
     d: Day,
     input: &[u8],
@@ -57,22 +98,12 @@ pub(crate) fn turn(
     let mut brought = [0u8; 256];
     let mut sizes = [0u16; 1];
     let c = command::parse(input, from, end, &mut brought, &mut sizes);
-    let Command::Is(x) = c else {
-        row::not_a_command(n);
-        return Day {
-            store: s,
-            at: at,
-            row: n,
-        };
-    };
-    let none = [0u8; 1];
-    let r = s.step(
-        geometry(),
-        x,
+    let next = play(
+        s,
+        n,
+        c,
         &brought,
         &sizes,
-        &none,
-        &none,
         bytes,
         lens,
         pieces,
@@ -81,10 +112,6 @@ pub(crate) fn turn(
         blocks,
         marks,
     );
-    let next = r.store;
-    let a = r.answer;
-    let m = next.machine;
-    row::print(n, a, m);
     Day {
         store: next,
         at: at,

@@ -3,7 +3,6 @@
 mod command;
 mod day;
 mod row;
-mod words;
 
 use day::Day;
 use disk::Slots;
@@ -57,6 +56,16 @@ fn run(
     }
 }
 
+// Is there more on standard input than was read?
+fn is_cut(read: usize) -> bool {
+    if read < 65536 {
+        return false;
+    }
+    let mut one = [0u8; 1];
+    let more = io::read_full(STDIN_FILENO, &mut one);
+    0 < more
+}
+
 fn main() {
     let mut input = io::large_buffer();
     let mut bytes = [0u8; 65536];
@@ -78,7 +87,8 @@ fn main() {
         &mut blocks,
         &mut marks,
     );
-    if n == 65536 {
+    let cut = is_cut(n);
+    if cut {
         io::write_all(STDOUT_FILENO, b"the input is cut after 65536 bytes\n");
     }
 }

@@ -1,0 +1,64 @@
+use Prim.Native.Nat.{_-_}
+use borrow.Author.Needs.{needs}
+use lib.ListN.{length}
+use mathlib.Core.Path.{_≡_, refl, sym, _∙_}
+use native.Mathlib.Omega.{arith}
+use Rattle.words.specs.Place.{place, isBlank, place-here, place-next, place-none}
+use Rattle.words.proofs.place.word_end.Statement.{statement}
+use Rattle.words.proofs.place.word_end.Tie as tie
+
+abbrev Inv-loop : tie.InvT-loop
+Inv-loop line at i₀ i = place isBlank line i (length line) ≡ place isBlank line at (length line)
+
+abbrev μ-loop : tie.MeasureT-loop
+μ-loop line at i₀ i = length line - i
+
+loop-holds : tie.Need-loop-holds Inv-loop μ-loop
+loop-holds c = refl
+
+shared-slice-read-is-blank : tie.Need-shared-slice-read-is-blank Inv-loop μ-loop
+shared-slice-read-is-blank c = search needs
+
+is-blank-requires : tie.Need-is-blank-requires Inv-loop μ-loop
+is-blank-requires c κs = search needs
+
+returns : tie.Need-returns Inv-loop μ-loop
+returns c =
+    let i = c .before .before .before .before in
+    let a = i .before .before .args in
+    place-here isBlank (a .line .now) (i .loop .i) (length (a .line .now)) (omega arith) (i .loop .inv)
+    (sym (c .before .is-blank .ensures) ∙ c .if1 .taken)
+
+add-i : tie.Need-add-i Inv-loop μ-loop
+add-i c = search needs
+
+loop-less : tie.Need-loop-less Inv-loop μ-loop
+loop-less c = search needs
+
+loop-again : tie.Need-loop-again Inv-loop μ-loop
+loop-again c =
+    let i = c .before .before .before .before in
+    let a = i .before .before .args in
+    place-next isBlank (a .line .now) (i .loop .i) (length (a .line .now)) (omega arith) (i .loop .inv)
+    (sym (c .before .is-blank .ensures) ∙ c .if1 .left)
+
+returns-2 : tie.Need-returns-2 Inv-loop μ-loop
+returns-2 c =
+    let i = c .before in
+    let a = i .before .before .args in
+    place-none isBlank (a .line .now) (i .loop .i) (length (a .line .now)) (omega arith) (i .loop .inv)
+
+pub word-end-spec : {M : Type 1} → statement M
+word-end-spec =
+    tie.close
+    (tie.spec
+    Inv-loop
+    μ-loop
+    loop-holds
+    shared-slice-read-is-blank
+    is-blank-requires
+    returns
+    add-i
+    loop-less
+    loop-again
+    returns-2)

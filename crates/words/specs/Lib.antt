@@ -1,0 +1,4 @@
+pub mod Place
+pub mod Line
+pub mod Decimal
+pub mod Hex
