@@ -5,11 +5,11 @@ use std::collections::VecDeque;
 
 use crate::layout::{Geometry, Interval, Location};
 use crate::ledger::Ledger;
-use crate::machine::{Machine, Phase, Piece, Ready, Slot, Sync, STEP_ENTRIES};
+use crate::machine::{Machine, Phase, Piece, Ready, Slot, Sync, PENDING_BYTES, STEP_ENTRIES};
 use crate::range::{self, Entry};
 use crate::store::{Step, Store};
 use crate::superblock::Superblock;
-use crate::text::{disk_line, MAX_BLOCKS};
+use crate::text::{disk_line, LONGEST_LINE, MAX_BLOCKS};
 
 /// SplitMix64.
 #[derive(Clone, Debug)]
@@ -66,7 +66,7 @@ pub struct Options {
     pub steps: usize,
     /// After each crash, load and show the ledger: replays of all its entries, its location.
     pub ledger: bool,
-    /// A first disk may have an ill-formed superblock.
+    /// The first disk has an ill-formed superblock; without this, one day in 60 has.
     pub ill: bool,
 }
 
@@ -110,10 +110,13 @@ fn first_disk(rng: &mut Rng, ill: bool) -> (Geometry, [Superblock; 2]) {
     if !rng.one_in(40) {
         slots[selected].len = 0;
     }
-    if rng.one_in(2) {
-        slots[selected].start = 0;
+    match rng.below(4) {
+        0 | 1 => slots[selected].start = 0,
+        // Sixteen writes of a block each lead round the ring's end.
+        2 if n > 16 => slots[selected].start = 1 + rng.below(n - 16),
+        _ => {}
     }
-    if ill {
+    if ill || rng.one_in(60) {
         let slot = &mut slots[rng.below(2) as usize];
         match rng.below(4) {
             0 => slot.start = n + rng.below(2),
@@ -140,7 +143,7 @@ impl Day {
             first: Some(disk_line(g, &slots)),
             store: Store::new(g, slots),
             ledger: Ledger::new(g, slots),
-            mood: (Mood::Steady, 10),
+            mood: if g.n() > 16 { (Mood::Hoard, 120) } else { (Mood::Steady, 10) },
             script: VecDeque::new(),
             left: options.steps,
         }
@@ -161,21 +164,32 @@ impl Day {
         self.rng.bytes(len as usize)
     }
 
-    /// Would a write of two blocks go round?
-    fn at_ring_end(&self) -> bool {
+    /// One in how many adds fills a block or has one byte more: often where a write of two blocks goes
+    /// round, always where one row is left in the table of writes.
+    fn seldom(&self) -> u64 {
         let g = self.store.geometry;
         match &self.store.machine.phase {
-            Phase::Ready(r) => g.advance(r.superblock.start, r.written) + 1 == g.n(),
-            _ => false,
+            Phase::Ready(r) if r.outstanding.len() == 15 => 1,
+            Phase::Ready(r) if g.advance(r.superblock.start, r.written) + 1 == g.n() => 6,
+            _ => 40,
         }
     }
 
+    /// The bytes left in pending memory, where an add could fill it.
+    fn nearly_full(&self) -> Option<usize> {
+        let Phase::Ready(r) = &self.store.machine.phase else { return None };
+        let left = PENDING_BYTES - r.pending().map(Vec::len).sum::<usize>();
+        (1..=STEP_ENTRIES * range::MAX_ENTRY).contains(&left).then_some(left)
+    }
+
     fn entries(&mut self) -> Vec<Entry> {
-        let often = self.at_ring_end() || self.mood.0 == Mood::Hoard;
-        if self.rng.one_in(if often { 6 } else { 40 }) {
-            // Just one block, or one byte more.
+        let seldom = self.seldom();
+        if self.rng.one_in(seldom) {
             let last = 251 + self.rng.below(2) as usize;
             return [255; 15].into_iter().chain([last]).map(|len| self.rng.bytes(len)).collect();
+        }
+        if let (Some(left), true) = (self.nearly_full(), self.rng.one_in(3)) {
+            return self.rng.bytes(left).chunks(range::MAX_ENTRY).map(Vec::from).collect();
         }
         let count = match self.mood.0 {
             Mood::Crowd | Mood::Flood => 16 - self.rng.below(2) * self.rng.below(16),
@@ -300,7 +314,9 @@ impl Day {
                     match piece {
                         Piece::Unread if interval.is_some() => {
                             steps.push((20, Step::ReadJournal { which, id }));
-                            steps.push((2, Step::ReadJournal { which, id: self.used_id() }));
+                            if let Piece::Asked(id) = loading.pieces[1 - which as usize] {
+                                steps.push((6, Step::ReadJournal { which, id }));
+                            }
                         }
                         Piece::Asked(id) => {
                             steps.push((20, Step::JournalRead { id: *id, whole: true }));
@@ -314,7 +330,9 @@ impl Day {
             Phase::Ready(r) if !r.replay_left().is_empty() => {
                 let mut entries = r.replay_left().to_vec();
                 entries.truncate(self.rng.of(&[16, 16, 16, 16, 8, 3, 1, 0]));
-                if self.rng.one_in(20) {
+                if self.rng.one_in(20) && entries.len() < STEP_ENTRIES {
+                    entries.push(self.entry());
+                } else if self.rng.one_in(20) {
                     let last = entries.last_mut().and_then(|e| e.last_mut());
                     last.into_iter().for_each(|b| *b ^= 1);
                 }
@@ -339,14 +357,18 @@ impl Day {
         if !r.outgoing().is_empty() {
             let len = range::blocks(r.outgoing()) as u64;
             let interval = Interval::new(g.advance(r.superblock.start, r.written), len);
-            let wraps = g.wraps(interval) != self.rng.one_in(15);
-            let second = wraps.then(|| if self.rng.one_in(15) { id } else { self.id() });
+            let last = r.outstanding.len() == 15;
+            // With one row left it waits until it goes round, where it can.
+            let waits = last && !g.wraps(interval) && len + r.written < g.n() && r.superblock.start > 0;
+            let wrong = if last { 3 } else { 15 };
+            let wraps = g.wraps(interval) != self.rng.one_in(wrong);
+            let second = wraps.then(|| if self.rng.one_in(wrong) { id } else { self.id() });
             let fits = len + r.written <= g.n() && r.commit.is_none();
-            let weight = if burst { 3 } else { many(mood == Mood::Hoard, 40, 20) };
+            let weight = if burst || waits { 3 } else { many(mood == Mood::Hoard, 40, 20) };
             steps.push((many(fits, weight, 2), Step::WriteJournal { id, second }));
         }
         if let Some(id) = r.outstanding.first() {
-            steps.push((many(mood == Mood::Hoard, 1, 25), Step::JournalWritten { id: *id }));
+            steps.push((many(mood == Mood::Hoard, 0, 25), Step::JournalWritten { id: *id }));
         }
         let turn = mood == Mood::Turn || g.n() - r.written < 2;
         match r.commit {
@@ -394,6 +416,16 @@ impl Day {
             at -= weight;
         }
         Step::NoOp
+    }
+
+    /// The line, now and then with other blanks and capital digits.
+    fn spelled(&mut self, line: String) -> String {
+        if !self.rng.one_in(50) {
+            return line;
+        }
+        let blank = self.rng.of(&["  ", "\t", "\x0c ", " \r"]);
+        let (word, rest) = line.split_once(' ').unwrap_or((&line, ""));
+        format!("{blank}{word}{blank}{}{blank}", rest.replace(' ', blank).to_uppercase())
     }
 
     /// Loads by whole reads, replays the ledger, shows its location, and crashes again.
@@ -465,6 +497,11 @@ impl Iterator for Day {
                 if self.rng.one_in(300) {
                     return Some(self.rng.of(NONSENSE).to_string());
                 }
+                if self.rng.one_in(1000) {
+                    // The longest line that is a step, or one byte more.
+                    let len = LONGEST_LINE + self.rng.below(2) as usize;
+                    return Some(format!("{:len$}", "noop"));
+                }
                 self.choose()
             }
         };
@@ -475,6 +512,6 @@ impl Iterator for Day {
         if self.options.ledger && !showing && !refused && step == Step::Crash {
             self.script = self.ledger.as_ref().map(|l| self.showing(l)).unwrap_or_default();
         }
-        Some(step.to_string())
+        Some(self.spelled(step.to_string()))
     }
 }

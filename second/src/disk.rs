@@ -114,9 +114,10 @@ impl Disk {
             Op::WriteJournal { id, second, start, range } => {
                 let interval = Interval::new(*start, (range.len() / BLOCK) as u64);
                 ask(range.len() % BLOCK == 0 && g.valid(interval), Refusal::Argument)?;
-                let ids: BTreeSet<Id> = [*id].into_iter().chain(*second).collect();
-                ask(ids.iter().all(|i| !self.journal_writes.contains_key(i)), Refusal::Id)?;
-                ask(self.journal_writes.len() + ids.len() <= JOURNAL_WRITES, Refusal::Room)?;
+                let waits = |id: &Id| self.journal_writes.contains_key(id);
+                ask(!waits(id) && !second.as_ref().is_some_and(waits), Refusal::Id)?;
+                let pieces = 1 + usize::from(g.wraps(interval));
+                ask(self.journal_writes.len() + pieces <= JOURNAL_WRITES, Refusal::Room)?;
                 ask(second.is_some() == g.wraps(interval) && *second != Some(*id), Refusal::SecondId)
             }
             Op::SuperblockRead { which, id, whole } => {

@@ -34,10 +34,11 @@ fn blocks(ranges: &[Vec<Entry>]) -> u64 {
 }
 
 impl Ledger {
-    /// None where the selected journal isn't empty.
+    /// None where a superblock is ill-formed or the selected journal isn't empty.
     pub fn new(geometry: Geometry, slots: [Superblock; 2]) -> Option<Self> {
         let first = slots[Superblock::select(&slots)];
-        (first.len == 0).then(|| Ledger {
+        let sound = slots.iter().all(|s| s.well_formed(geometry));
+        (sound && first.len == 0).then(|| Ledger {
             geometry,
             counter: first.counter,
             start: first.start,

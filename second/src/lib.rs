@@ -2,12 +2,15 @@
 //! written from document 01 and the five Dafny files alone.
 #![forbid(unsafe_code)]
 
+pub mod conformance;
+pub mod coverage;
 pub mod days;
 pub mod disk;
 pub mod layout;
 pub mod ledger;
 pub mod machine;
 pub mod range;
+mod scripts;
 pub mod store;
 pub mod superblock;
 pub mod text;

@@ -1,5 +1,9 @@
 //! Document 01's brew day, its wrong turns, and demand 3 on random days.
 
+use std::fs;
+use std::path::Path;
+
+use crate::coverage::possible;
 use crate::days::{Day, Options, Rng};
 use crate::disk::{Disk, Journal, Op};
 use crate::layout::{Geometry, Interval, Location, BLOCK};
@@ -8,8 +12,8 @@ use crate::machine::{Phase, Piece, Slot};
 use crate::range::{self, Entry};
 use crate::store::{Step, Store};
 use crate::superblock::Superblock;
-use crate::text::{parse_disk, parse_step};
-use crate::{trace, Refusal};
+use crate::text::{parse_disk, parse_step, LONGEST_LINE};
+use crate::{conformance, trace, Refusal};
 
 fn g() -> Geometry {
     Geometry::new(8, 4096).unwrap()
@@ -158,6 +162,24 @@ fn trace_text() {
 }
 
 #[test]
+fn long_lines() {
+    let disk = "disk 1 1 0 0 0 12288 1 0 0 0 12288 1";
+    let rows = |day: String| {
+        let mut output = vec![];
+        trace::run(day.as_bytes(), &mut output).unwrap();
+        String::from_utf8(output).unwrap().lines().map(String::from).collect::<Vec<_>>()
+    };
+    let padded = |line: &str, len: usize| format!("{line}{}\n", " ".repeat(len - line.len()));
+    let most = LONGEST_LINE;
+    let lines = [(disk, most), ("noop", most), ("noop", most + 1), ("noop", 100_000), ("noop", 4)];
+    let day = rows(lines.map(|(line, len)| padded(line, len)).concat());
+    let starts = [trace::HEADER, "1 0 S", "line 2 is not a step", "line 3 is not a step", "4 0 S"];
+    assert_eq!(day.len(), starts.len());
+    assert!(day.iter().zip(starts).all(|(row, start)| row.starts_with(start)), "{day:?}");
+    assert_eq!(rows(padded(disk, most + 1) + "noop"), ["line 0 is not a disk"]);
+}
+
+#[test]
 fn sync_requests_move_at_the_answer() {
     let mut store = loaded();
     let counts = |store: &Store| {
@@ -302,7 +324,7 @@ fn loads_show_the_ledger() {
         let mut store = Store::new(g, slots);
         for (n, line) in (1..).zip(day) {
             let Some(step) = parse_step(line.as_bytes()) else { continue };
-            assert_eq!(step.to_string(), line);
+            assert_eq!(parse_step(step.to_string().as_bytes()).as_ref(), Some(&step));
             let before = store.clone();
             let refused = store.step(&step).is_err();
             assert!(!refused || store == before, "seed {seed}, step {n}: a refusal altered the store");
@@ -322,4 +344,35 @@ fn loads_show_the_ledger() {
         }
     }
     assert!(pictured > 100);
+}
+
+/// The conformance days meet each step with each refusal that a trace can show, and no other.
+#[test]
+fn conformance_covers() {
+    for (word, cells) in conformance::coverage(&conformance::days()) {
+        for (refusal, day) in cells.iter().enumerate() {
+            assert_eq!(day.is_some(), possible(word, refusal), "{word} refused by {refusal}: {day:?}");
+        }
+    }
+}
+
+/// Days, rows and tables in ../conformance are those that `conformance` writes.
+#[test]
+fn conformance_is_written() {
+    let folder = Path::new(env!("CARGO_MANIFEST_DIR")).join("../conformance");
+    let read = |name: &str| fs::read_to_string(folder.join(name)).expect(name);
+    let mut files = vec![];
+    for day in conformance::days() {
+        assert!(read(&format!("days/{}.day", day.name)) == day.input, "{}.day", day.name);
+        assert!(read(&format!("days/{}.rows", day.name)) == day.rows, "{}.rows", day.name);
+        files.extend([format!("{}.day", day.name), format!("{}.rows", day.name)]);
+    }
+    let there =
+        fs::read_dir(folder.join("days")).unwrap().map(|f| f.unwrap().file_name().into_string().unwrap());
+    let mut there: Vec<String> = there.collect();
+    there.sort();
+    files.sort();
+    assert_eq!(there, files);
+    let page = read("README.md");
+    assert!(conformance::page(&page).as_ref() == Some(&page), "the tables of README.md");
 }

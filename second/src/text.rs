@@ -10,6 +10,15 @@ use crate::superblock::Superblock;
 /// The most blocks a trace's disk may have.
 pub const MAX_BLOCKS: u64 = 32;
 
+/// The longest line that is a disk or a step, without its line feed.
+pub const LONGEST_LINE: usize = 16_384;
+
+/// A line's words: blanks between them are spaces, tabs, form feeds and carriage returns.
+fn words(line: &[u8]) -> Option<std::str::SplitAsciiWhitespace<'_>> {
+    let short = line.len() <= LONGEST_LINE;
+    short.then(|| std::str::from_utf8(line).ok())?.map(str::split_ascii_whitespace)
+}
+
 /// Plain decimal digits, as one 64-bit number.
 fn number(word: &str) -> Option<u64> {
     word.bytes().all(|b| b.is_ascii_digit()).then(|| word.parse().ok())?
@@ -27,7 +36,7 @@ fn entry(word: &str) -> Option<Entry> {
 
 /// `disk N T`, then the five numbers of each superblock.
 pub fn parse_disk(line: &[u8]) -> Option<(Geometry, [Superblock; 2])> {
-    let mut words = std::str::from_utf8(line).ok()?.split_ascii_whitespace();
+    let mut words = words(line)?;
     if words.next()? != "disk" {
         return None;
     }
@@ -43,8 +52,16 @@ pub fn disk_line(g: Geometry, slots: &[Superblock; 2]) -> String {
     numbers.fold(format!("disk {} {}", g.n(), g.t()), |line, x| format!("{line} {x}"))
 }
 
+/// Each entry's bytes as hexadecimal digits, a space before each entry.
+pub fn entries_line(entries: &[Entry]) -> String {
+    let word = |e: &Entry| {
+        [" ".to_string()].into_iter().chain(e.iter().map(|b| format!("{b:02x}"))).collect::<String>()
+    };
+    entries.iter().map(word).collect()
+}
+
 pub fn parse_step(line: &[u8]) -> Option<Step> {
-    let mut words = std::str::from_utf8(line).ok()?.split_ascii_whitespace();
+    let mut words = words(line)?;
     let name = words.next()?;
     if let "add" | "replay" = name {
         let entries = words.map(entry).collect::<Option<_>>()?;
@@ -127,10 +144,7 @@ impl fmt::Display for Step {
             | Step::ReadJournal { which, id } => write!(f, " {which} {id}"),
             Step::ReceiveLocation(loc) => write!(f, " {} {}", loc.addr, loc.len),
             Step::AskAgain { which } | Step::Land { which } => write!(f, " {which}"),
-            Step::Add(entries) | Step::Replay(entries) => entries.iter().try_for_each(|entry| {
-                f.write_str(" ")?;
-                entry.iter().try_for_each(|b| write!(f, "{b:02x}"))
-            }),
+            Step::Add(entries) | Step::Replay(entries) => f.write_str(&entries_line(entries)),
             _ => Ok(()),
         }
     }

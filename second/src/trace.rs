@@ -7,7 +7,7 @@ use crate::machine::{Phase, Piece, Sync};
 use crate::range::Entry;
 use crate::store::Store;
 use crate::superblock::Superblock;
-use crate::text::{parse_disk, parse_step};
+use crate::text::{parse_disk, parse_step, LONGEST_LINE};
 use crate::Refusal;
 
 pub const HEADER: &str = "n r k c s l w z f p m o y q1 q2 q3 h";
@@ -101,14 +101,26 @@ pub fn row(n: u64, result: Result<(), Refusal>, store: &Store) -> String {
     row
 }
 
+/// The next line without its line feed, or none at the input's end. Of one that is too long, a byte
+/// more than the longest is kept, and the rest passed over.
+fn next_line<'a>(input: &mut impl BufRead, line: &'a mut Vec<u8>) -> io::Result<Option<&'a [u8]>> {
+    line.clear();
+    if input.by_ref().take(LONGEST_LINE as u64 + 1).read_until(b'\n', line)? == 0 {
+        return Ok(None);
+    }
+    if line.pop_if(|b| *b == b'\n').is_none() && line.len() > LONGEST_LINE {
+        input.skip_until(b'\n')?;
+    }
+    Ok(Some(line))
+}
+
 /// Plays a day, line by line; rows go out as soon as no more input is at hand.
 /// False where the first line isn't a disk.
 pub fn run(input: impl Read, output: impl Write) -> io::Result<bool> {
     let mut input = BufReader::with_capacity(1 << 16, input);
     let mut output = BufWriter::with_capacity(1 << 16, output);
     let mut line = Vec::new();
-    input.read_until(b'\n', &mut line)?;
-    let Some((geometry, slots)) = parse_disk(&line) else {
+    let Some((geometry, slots)) = next_line(&mut input, &mut line)?.and_then(parse_disk) else {
         writeln!(output, "line 0 is not a disk")?;
         return output.flush().map(|()| false);
     };
@@ -118,11 +130,8 @@ pub fn run(input: impl Read, output: impl Write) -> io::Result<bool> {
         if input.buffer().is_empty() {
             output.flush()?;
         }
-        line.clear();
-        if input.read_until(b'\n', &mut line)? == 0 {
-            break;
-        }
-        match parse_step(&line) {
+        let Some(line) = next_line(&mut input, &mut line)? else { break };
+        match parse_step(line) {
             Some(step) => {
                 let result = store.step(&step);
                 writeln!(output, "{}", row(n, result, &store))?;

@@ -8,15 +8,17 @@ use std::path::{Path, PathBuf};
 use std::process::{Command, ExitCode, Stdio};
 use std::sync::atomic::{AtomicU64, Ordering};
 use std::sync::Mutex;
+use std::time::Instant;
 
+use second::coverage::{Seen, SITUATIONS, STEPS};
 use second::days::{Day, Options};
 use second::layout::Location;
 use second::ledger::Ledger;
 use second::range::{valid_entry, Entry};
-use second::store::Step;
+use second::store::{Step, Store};
 use second::text::{parse_disk, parse_step};
 
-const USAGE: &str = "compare [--seeds FIRST LAST] [--steps K] [--ledger] [--ill] [PROGRAM [PROGRAM]]";
+const USAGE: &str = "compare [--seeds FIRST LAST] [--steps K] [--plain] [--ill] [PROGRAM [PROGRAM]]";
 
 struct Arguments {
     seeds: (u64, u64),
@@ -25,7 +27,7 @@ struct Arguments {
 }
 
 fn arguments() -> Result<Arguments, String> {
-    let options = Options { steps: 300, ledger: false, ill: false };
+    let options = Options { steps: 300, ledger: true, ill: false };
     let mut arguments = Arguments { seeds: (1, 1000), options, programs: vec![] };
     let mut words = std::env::args().skip(1);
     while let Some(word) = words.next() {
@@ -33,7 +35,7 @@ fn arguments() -> Result<Arguments, String> {
         match word.as_str() {
             "--seeds" => arguments.seeds = (number()?, number()?),
             "--steps" => arguments.options.steps = number()? as usize,
-            "--ledger" => arguments.options.ledger = true,
+            "--plain" => arguments.options.ledger = false,
             "--ill" => arguments.options.ill = true,
             word if word.starts_with('-') => return Err(USAGE.into()),
             _ => arguments.programs.push(word),
@@ -65,8 +67,11 @@ fn play(program: &str, day: &str) -> Result<Vec<String>, String> {
         scope.spawn(move || input.write_all(day.as_bytes()));
         child.wait_with_output()
     });
-    let rows = String::from_utf8_lossy(&output.map_err(fail)?.stdout).lines().map(String::from).collect();
-    Ok(rows)
+    let output = output.map_err(fail)?;
+    if !output.status.success() {
+        return Err(format!("{program}: {}", output.status));
+    }
+    Ok(String::from_utf8_lossy(&output.stdout).lines().map(String::from).collect())
 }
 
 /// What is known of a store loaded since its last crash.
@@ -146,6 +151,7 @@ struct Totals {
     loads: u64,
     /// By step and refusal; a line that is no step has no refusal.
     met: BTreeMap<(&'static str, String), u64>,
+    situations: BTreeMap<&'static str, u64>,
     failure: Option<(u64, String)>,
 }
 
@@ -153,10 +159,16 @@ struct Totals {
 fn day(seed: u64, arguments: &Arguments) -> Result<Totals, String> {
     let lines: Vec<String> = Day::new(seed, arguments.options).collect();
     let text = lines.iter().map(|l| format!("{l}\n")).collect::<String>();
-    let played: Vec<Vec<String>> =
-        arguments.programs.iter().map(|p| play(p, &text)).collect::<Result<_, _>>()?;
+    let played: Vec<Vec<String>> = arguments
+        .programs
+        .iter()
+        .map(|p| play(p, &text))
+        .collect::<Result<_, _>>()
+        .map_err(|e| format!("seed {seed}: {e}"))?;
     let mut totals = Totals { days: 1, ..Totals::default() };
     let mut audits: Vec<Audit> = played.iter().map(|_| Audit::new(&lines[0])).collect();
+    let (g, slots) = parse_disk(lines[0].as_bytes()).ok_or("the day has no disk")?;
+    let mut store = Store::new(g, slots);
     for (n, line) in lines.iter().enumerate() {
         let rows: Vec<&str> = played.iter().map(|p| p.get(n).map_or("no row", |r| r)).collect();
         let report = |what: String| {
@@ -180,6 +192,12 @@ fn day(seed: u64, arguments: &Arguments) -> Result<Totals, String> {
         };
         let refusal = rows[0].split(' ').nth(1).unwrap_or("-").to_string();
         *totals.met.entry((step.word(), refusal)).or_default() += 1;
+        let before = store.clone();
+        let result = store.step(&step);
+        let seen = Seen { before: &before, step: &step, result, after: &store };
+        for (name, _) in SITUATIONS.iter().filter(|(_, holds)| holds(&seen)) {
+            *totals.situations.entry(name).or_default() += 1;
+        }
         for (audit, row) in audits.iter_mut().zip(&rows) {
             audit.feed(&step, row).map_err(report)?;
         }
@@ -199,26 +217,36 @@ impl Totals {
         for (key, count) in other.met {
             *self.met.entry(key).or_default() += count;
         }
+        for (name, count) in other.situations {
+            *self.situations.entry(name).or_default() += count;
+        }
     }
 
-    fn table(&self) {
-        let refusals: Vec<String> = (0..=9).map(|r| r.to_string()).chain(["-".into()]).collect();
-        let count = |of: &dyn Fn(&(&str, String)) -> bool| {
-            self.met.iter().filter(|(key, _)| of(key)).map(|(_, count)| count).sum::<u64>()
+    /// Each step by refusal, then the situations.
+    fn tables(&self) {
+        let count = |word: &str, r: &str| {
+            let here = self.met.iter().filter(|((w, n), _)| (word == "all" || *w == word) && n == r);
+            here.map(|(_, count)| count).sum::<u64>()
         };
-        print!("{:>8}", "step");
-        refusals.iter().for_each(|r| print!(" {r:>9}"));
-        println!();
-        let mut words: Vec<&str> = self.met.keys().map(|(word, _)| *word).collect();
-        words.dedup();
-        for word in words {
-            print!("{word:>8}");
-            refusals.iter().for_each(|r| print!(" {:>9}", count(&|key| key.0 == word && key.1 == *r)));
-            println!();
+        let refusals: Vec<String> = (0..=9).map(|r| r.to_string()).chain(["-".into()]).collect();
+        println!("{:>8}{}", "step", refusals.iter().map(|r| format!(" {r:>8}")).collect::<String>());
+        for word in STEPS.iter().map(|(word, _)| *word).chain(["no step", "all"]) {
+            let counts = refusals.iter().map(|r| format!(" {:>8}", count(word, r)));
+            println!("{word:>8}{}", counts.collect::<String>());
         }
-        print!("{:>8}", "all");
-        refusals.iter().for_each(|r| print!(" {:>9}", count(&|key| key.1 == *r)));
         println!();
+        for (name, _) in SITUATIONS {
+            println!("{:>8} {name}", self.situations.get(name).copied().unwrap_or(0));
+        }
+    }
+
+    /// What these days could have met and didn't.
+    fn missing(&self) -> Vec<String> {
+        let steps = STEPS.iter().flat_map(|(word, numbers)| numbers.chars().map(|r| (*word, r.to_string())));
+        let steps = steps.filter(|key| !self.met.contains_key(key)).map(|(word, r)| format!("{word} {r}"));
+        let situations = SITUATIONS.iter().map(|(name, _)| *name);
+        let situations = situations.filter(|name| !self.situations.contains_key(name)).map(String::from);
+        steps.chain(situations).collect()
     }
 }
 
@@ -239,6 +267,7 @@ fn main() -> ExitCode {
     if arguments.programs.len() < 2 {
         println!("(one program only: its rows stand alone, against the ledger)");
     }
+    let begun = Instant::now();
     let next = AtomicU64::new(first);
     let totals = Mutex::new(Totals::default());
     std::thread::scope(|scope| {
@@ -259,25 +288,34 @@ fn main() -> ExitCode {
                         next.store(last + 1, Ordering::Relaxed);
                     }
                 }
-                if totals.days % 500 == 0 && totals.failure.is_none() {
+                if totals.days % ((last - first) / 20 + 1) == 0 && totals.failure.is_none() {
                     eprintln!(
-                        "{} days, {} rows, {} loads: none apart",
-                        totals.days, totals.rows, totals.loads
+                        "{} of {} days, {} rows, {} loads, {} s: none apart",
+                        totals.days,
+                        last - first + 1,
+                        totals.rows,
+                        totals.loads,
+                        begun.elapsed().as_secs()
                     );
                 }
             });
         }
     });
     let totals = totals.into_inner().expect("no worker fails");
-    totals.table();
+    totals.tables();
+    let missing = totals.missing();
     match totals.failure {
         Some((_, what)) => {
             println!("{what}");
             ExitCode::FAILURE
         }
         None => {
+            match missing.is_empty() {
+                true => println!("every refusal that a trace can show, and every situation, was met"),
+                false => println!("not met: {}", missing.join(", ")),
+            }
             println!(
-                "{} days, {} rows, {} loads showing their ledger: none apart",
+                "seeds {first} to {last}: {} days, {} rows, {} loads showing their ledger: none apart",
                 totals.days, totals.rows, totals.loads
             );
             ExitCode::SUCCESS

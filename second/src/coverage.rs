@@ -1,0 +1,170 @@
+//! What a trace can meet: each step's refusals, and situations that random days must bring about.
+
+use crate::machine::{Advance, Phase, Piece, Ready, PENDING_BYTES, PENDING_ENTRIES, SYNC_REQUESTS};
+use crate::range;
+use crate::store::{Step, Store};
+use crate::superblock::Superblock;
+use crate::Refusal;
+
+/// Each step's word, and the refusals that a trace can show of it; 0 is taken.
+#[rustfmt::skip]
+pub const STEPS: [(&str, &str); 23] = [
+    ("wj", "0235689"), ("aj", "025"), ("cl", "0236"), ("co", "0236"), ("ac", "0256"), ("rs", "023456"),
+    ("as", "0245"), ("xs", "0245"), ("rj", "023456"), ("ar", "0256"), ("xr", "025"), ("f1", "0236"),
+    ("f2", "0236"), ("freeze", "0236"), ("loc", "02346"), ("add", "023468"), ("replay", "02346"),
+    ("push", "0258"), ("pop", "0256"), ("noop", "02"), ("again", "02346"), ("land", "0246"),
+    ("crash", "02"),
+];
+
+/// Can a trace show this step with this refusal?
+pub fn possible(word: &str, refusal: usize) -> bool {
+    STEPS.iter().any(|(step, numbers)| *step == word && numbers.contains(&refusal.to_string()))
+}
+
+/// A situation's name, and how a step is told to be in it.
+type Situation = (&'static str, fn(&Seen) -> bool);
+
+/// Situations that random days must meet.
+#[rustfmt::skip]
+pub const SITUATIONS: &[Situation] = &[
+    ("a journal write goes round the ring's end", |s| s.taken() && matches!(s.step, Step::WriteJournal { second: Some(_), .. })),
+    ("a journal write fills the ring", |s| s.wrote() && s.after_ready(|r| r.written == s.after.geometry.n())),
+    ("a journal write makes 16 in flight", |s| s.wrote() && s.after_ready(|r| r.outstanding.len() == 16)),
+    ("a journal write takes the frozen, others stay", |s| s.wrote() && s.ready(|r| !r.frozen.is_empty() && !r.memory.is_empty())),
+    ("8: the journal is full", |s| s.full_journal() == Some(true)),
+    ("8: 16 writes are in flight", |s| s.full_journal() == Some(false)),
+    ("8: one row left for a write round the end under one id", |s| s.full_journal() == Some(false) && s.ready(|r| r.outstanding.len() == 15) && s.one_id()),
+    ("9: a second id too many", |s| s.refused(Refusal::SecondId) && !s.one_id()),
+    ("9: a second id missing", |s| s.refused(Refusal::SecondId) && matches!(s.step, Step::WriteJournal { second: None, .. })),
+    ("9: a second id like the first", |s| s.refused(Refusal::SecondId) && s.one_id() && !matches!(s.step, Step::WriteJournal { second: None, .. })),
+    ("pending has 1,024 entries", |s| s.added() && s.after_ready(|r| r.pending().count() == PENDING_ENTRIES)),
+    ("pending has 65,536 bytes", |s| s.added() && s.after_ready(|r| pending_bytes(r) == PENDING_BYTES)),
+    ("8: too many entries pending", |s| s.full_pending() == Some(true)),
+    ("8: too many bytes pending", |s| s.full_pending() == Some(false)),
+    ("32 sync requests", |s| s.taken() && matches!(s.step, Step::Push { .. }) && s.after.machine.sync.len() == SYNC_REQUESTS),
+    ("8: too many sync requests", |s| s.refused(Refusal::Room) && matches!(s.step, Step::Push { .. })),
+    ("a commit takes the counter from 2^64 - 1 to 0", |s| s.answered(|c, _| c.superblock.counter == 0)),
+    ("a load selects slot 2 by counters 2^64 - 1, 0", |s| s.finished_superblocks(|a, b| (a, b) == (u64::MAX, 0))),
+    ("a load selects slot 1 by counters apart", |s| s.finished_superblocks(|a, b| b != a && b != a.wrapping_add(1) && a != b.wrapping_add(1))),
+    ("a location commit drops blocks and keeps blocks", |s| s.answered(|c, r| c.advance == Advance::Location && r.frozen_position > 0 && c.superblock.len > 0)),
+    ("a location commit moves start round the ring", |s| s.answered(|c, r| c.superblock.start < r.superblock.start)),
+    ("a load in two pieces", |s| s.loaded(|after| matches!(&s.before.machine.phase, Phase::Journal(l) if matches!(l.pieces, [Piece::In(_), Piece::In(_)])) && !after.replay.is_empty())),
+    ("a damaged superblock read", |s| s.taken() && matches!(s.step, Step::SuperblockRead { whole: false, .. })),
+    ("a damaged journal read", |s| s.taken() && matches!(s.step, Step::JournalRead { whole: false, .. })),
+    ("5: a superblock read under the other slot's id", |s| s.refused(Refusal::Id) && matches!(s.step, Step::ReadSuperblock { .. })),
+    ("5: a journal read under the other piece's id", |s| s.refused(Refusal::Id) && matches!(s.step, Step::ReadJournal { .. })),
+    ("a replay of 16 entries", |s| s.taken() && s.replays(|given, _| given == 16)),
+    ("a replay of none while some are left", |s| s.taken() && s.replays(|given, left| given == 0 && left > 0)),
+    ("6: a replay of wrong entries", |s| s.refused(Refusal::Condition) && s.replays(|given, left| given <= left)),
+    ("6: a replay of more than is left", |s| s.refused(Refusal::Condition) && s.replays(|given, left| given > left && left > 0)),
+    ("4: a replay of more than 16", |s| s.refused(Refusal::Argument) && s.replays(|given, _| given > 16)),
+    ("6: an add before the replay's end", |s| s.refused(Refusal::Condition) && matches!(s.step, Step::Add(_))),
+    ("a commit is sent before the replay's end", |s| s.taken() && matches!(s.step, Step::CommitLog { .. }) && s.ready(|r| !r.replay_left().is_empty())),
+    ("a landing comes again", |s| s.taken() && matches!(s.step, Step::Land { .. }) && s.before.disk.slots == s.after.disk.slots),
+    ("6: an answer before its landing", |s| s.refused(Refusal::Condition) && matches!(s.step, Step::SuperblockWritten { .. })),
+    ("a crash with 1 journal write in flight", |s| s.crashed() && s.before.disk.journal_writes.len() == 1),
+    ("a crash with 2 to 8 in flight", |s| s.crashed() && (2..9).contains(&s.before.disk.journal_writes.len())),
+    ("a crash with 9 to 16 in flight", |s| s.crashed() && s.before.disk.journal_writes.len() > 8),
+    ("a crash with writes at both ends of the ring in flight", |s| s.crashed() && s.both_ends_in_flight()),
+    ("a crash before a log commit's landing", |s| s.crash_at_commit(Advance::Log, false)),
+    ("a crash before a log commit's answer", |s| s.crash_at_commit(Advance::Log, true)),
+    ("a crash before a location commit's landing", |s| s.crash_at_commit(Advance::Location, false)),
+    ("a crash before a location commit's answer", |s| s.crash_at_commit(Advance::Location, true)),
+    ("a crash while superblocks are read", |s| s.crashed() && s.before.disk.superblock_reads.iter().any(|r| !r.is_empty())),
+    ("a crash while the journal is read", |s| s.crashed() && !s.before.disk.journal_reads.is_empty()),
+    ("a crash before the replay's end", |s| s.crashed() && s.ready(|r| !r.replay_left().is_empty())),
+    ("a crash with frozen entries unwritten", |s| s.crashed() && s.ready(|r| !r.frozen.is_empty())),
+    ("2: an ill-formed superblock", |s| s.refused(Refusal::State)),
+];
+
+fn pending_bytes(r: &Ready) -> usize {
+    r.pending().map(Vec::len).sum()
+}
+
+/// One step, with the store before it and after it.
+pub struct Seen<'a> {
+    pub before: &'a Store,
+    pub step: &'a Step,
+    pub result: Result<(), Refusal>,
+    pub after: &'a Store,
+}
+
+impl Seen<'_> {
+    fn taken(&self) -> bool {
+        self.result.is_ok()
+    }
+
+    fn refused(&self, refusal: Refusal) -> bool {
+        self.result == Err(refusal)
+    }
+
+    fn wrote(&self) -> bool {
+        self.taken() && matches!(self.step, Step::WriteJournal { .. })
+    }
+
+    fn one_id(&self) -> bool {
+        matches!(self.step, Step::WriteJournal { id, second } if second.is_none_or(|s| s == *id))
+    }
+
+    fn added(&self) -> bool {
+        self.taken() && matches!(self.step, Step::Add(_))
+    }
+
+    fn crashed(&self) -> bool {
+        self.taken() && *self.step == Step::Crash
+    }
+
+    fn ready(&self, holds: impl Fn(&Ready) -> bool) -> bool {
+        matches!(&self.before.machine.phase, Phase::Ready(r) if holds(r))
+    }
+
+    fn after_ready(&self, holds: impl Fn(&Ready) -> bool) -> bool {
+        matches!(&self.after.machine.phase, Phase::Ready(r) if holds(r))
+    }
+
+    fn loaded(&self, holds: impl Fn(&Ready) -> bool) -> bool {
+        self.taken() && *self.step == Step::FinishJournal && self.after_ready(holds)
+    }
+
+    fn replays(&self, holds: impl Fn(usize, usize) -> bool) -> bool {
+        matches!(self.step, Step::Replay(e) if self.ready(|r| holds(e.len(), r.replay_left().len())))
+    }
+
+    fn answered(&self, holds: impl Fn(&crate::machine::Commit, &Ready) -> bool) -> bool {
+        let awaited = self.ready(|r| r.commit.is_some_and(|c| holds(&c, r)));
+        self.taken() && matches!(self.step, Step::SuperblockWritten { .. }) && awaited
+    }
+
+    /// A journal write refused by 8: has the ring no room?
+    fn full_journal(&self) -> Option<bool> {
+        let writes = self.refused(Refusal::Room) && matches!(self.step, Step::WriteJournal { .. });
+        let n = self.before.geometry.n();
+        writes.then(|| self.ready(|r| range::blocks(r.outgoing()) as u64 + r.written > n))
+    }
+
+    /// An add refused by 8: are there too many entries?
+    fn full_pending(&self) -> Option<bool> {
+        let Step::Add(entries) = self.step else { return None };
+        let many = self.ready(|r| r.pending().count() + entries.len() > PENDING_ENTRIES);
+        self.refused(Refusal::Room).then_some(many)
+    }
+
+    fn finished_superblocks(&self, holds: impl Fn(u64, u64) -> bool) -> bool {
+        let [a, b] = self.before.disk.slots.map(|s| s.map_or(0, |s: Superblock| s.counter));
+        self.taken() && *self.step == Step::FinishSuperblocks && holds(a, b)
+    }
+
+    fn both_ends_in_flight(&self) -> bool {
+        let (n, writes) = (self.before.geometry.n(), &self.before.disk.journal_writes);
+        writes.values().any(|i| i.start == 0) && writes.values().any(|i| i.start + i.len == n)
+    }
+
+    fn crash_at_commit(&self, advance: Advance, landed: bool) -> bool {
+        let slots = &self.before.disk.slots;
+        let at = |r: &Ready| {
+            r.commit
+                .is_some_and(|c| c.advance == advance && (slots[1 - r.which] == Some(c.superblock)) == landed)
+        };
+        self.crashed() && self.ready(at)
+    }
+}

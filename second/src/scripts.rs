@@ -1,0 +1,188 @@
+//! The conformance days as scripts, written by hand from document 01; `conformance.rs` says how they are read.
+
+use crate::conformance::Script;
+
+#[rustfmt::skip]
+pub(crate) const DAYS: &[Script] = &[
+// A day as it should go, and each step in its family.
+("brew-day", "document 01's brew day", "
+    @brew, @load, add 41, wj 3, aj 3, cl 4, land 1, crash"),
+("wrong-kind", "each step that names a kind, in the two other kinds: 3, before any other question; steps that name none, in each kind", "
+    @brew, noop, push 9
+    wj 1 =3, cl 1 =3, co 1 =3, rj 0 1 =3, rj 2 1 =3, f2 =3, freeze =3, loc 40960 1 =3, loc 0 0 =3
+    add 41 =3, add #17x1 =3, replay 41 =3, aj 1 =5, ac 1 =5, ar 1 =5, xr 1 =5, land 0 =6, pop 9 =6
+    @superblocks, noop, push 8
+    wj 1 =3, cl 1 =3, co 1 =3, rs 0 1 =3, rs 2 1 =3, f1 =3, freeze =3, loc 40960 1 =3
+    add 41 =3, replay 41 =3, again 0 =3, again 2 =3, as 0 1 =5, xs 0 1 =5, aj 1 =5, ac 1 =5, land 0 =6, pop 9 =6
+    f2, noop, push 7
+    rs 0 1 =3, rs 2 1 =3, f1 =3, again 0 =3, rj 0 1 =3, rj 2 1 =3, f2 =3
+    as 0 1 =5, xs 0 1 =5, ar 1 =5, xr 1 =5, aj 1 =5, ac 1 =5, land 0 =6, pop 9 =6, crash"),
+("superblock-reads", "`rs`, `as`, `f1`: `which` above 1 (4), the other slot's id (5, even where the slot is read), a slot asked or read (6), an answer nobody waits for (5)", "
+    @brew, f1 =6, rs 2 1 =4, rs 18446744073709551615 1 =4, as 0 1 =5, as 2 1 =4, xs 0 1 =5, xs 2 1 =4
+    rs 0 1, rs 0 1 =6, rs 0 3 =6, rs 1 1 =5, as 1 1 =5, f1 =6, rs 1 2, as 1 2, as 1 2 =5
+    rs 1 1 =5, rs 1 3 =6, f1 =6, as 0 1, rs 1 1 =6, again 0 =6, f1"),
+("damaged-superblock", "`xs`, `again`: a damaged slot is asked for again; without it no load, however sound the other slot is", "
+    @brew, again 0 =6, again 2 =4, rs 0 1, again 0 =6, rs 1 2, as 1 2, xs 0 1, xs 0 1 =5, f1 =6, rs 0 1 =6, again 1 =6
+    again 0, f1 =6, again 0 =6, rs 0 1, xs 0 1, again 0, rs 0 2, as 0 2, f1, f2"),
+("load-empty", "a journal of no blocks: no piece can be read, and `f2` is taken at once", "
+    @brew, @superblocks, rj 0 3 =6, rj 1 3 =6, rj 2 3 =4, f2"),
+("load-one-piece", "a journal without a back piece; the frozen position is 0 after the load", "
+    @brew, @load, add 41 42, wj 3, aj 3, add 43, wj 3, aj 3, cl 4, land 1, ac 4, crash
+    @superblocks, rj 1 3 =6, f2 =6, rj 0 3, f2 =6, ar 3, rj 0 3 =6, f2, replay 41 42 43"),
+("load-two-pieces", "a journal round the ring's end: the back piece first; each answer goes to the piece whose id it has", "
+    disk 4 4096 0 3 0 24576 4096 0 0 0 24576 4096, @load, add #16x255, wj 5 6, aj 6, aj 5, cl 7, land 1, ac 7, crash
+    @superblocks, rj 2 1 =4, ar 1 =5, xr 1 =5, f2 =6, rj 0 1, rj 0 2 =6, rj 1 1 =5, f2 =6, rj 1 2, ar 2, ar 2 =5, rj 1 2 =6
+    f2 =6, ar 1, rj 0 1 =6, f2, replay #16x255"),
+("damaged-journal", "`xr`: a damaged piece is asked for again, under any id; the other piece stays", "
+    disk 4 4096 0 3 0 24576 4096 0 0 0 24576 4096, @load, add #16x255, wj 5 6, aj 5, aj 6, cl 7, land 1, ac 7, crash
+    @superblocks, rj 0 1, rj 1 2, xr 1, xr 1 =5, f2 =6, rj 0 2 =5, ar 2, rj 0 2, xr 2, rj 0 2, ar 2, f2, replay #16x255"),
+("unreadable-journal", "a first disk whose selected journal was never written (marks 0): a whole answer is a 6, a damaged one is taken", "
+    disk 4 4096 0 3 2 24576 4096 0 0 0 24576 4096
+    @superblocks, rj 0 1, ar 1 =6, xr 1, rj 0 1, rj 1 2, ar 2 =6, xr 2, f2 =6, crash"),
+("journal-write", "`wj`, `aj`: nothing pending or a commit in flight (6), an id in flight (5), a second id where the write runs straight (9)", "
+    @brew, @load, wj 1 =6, add, wj 1 =6, add 41, wj 1 2 =9, wj 1 1 =9, wj 1, aj 2 =5, wj 2 =6
+    add 42, wj 1 =5, wj 1 1 =5, wj 2 1 =5, wj 2, aj 2, aj 1, aj 1 =5, add 43, cl 3, wj 4 =6, land 1, wj 4 =6, ac 3, wj 4
+    aj 4, wj 5 =6, add 44, wj 18446744073709551615, aj 18446744073709551615"),
+("one-block-or-two", "15 entries of 255 bytes and one of 251 fill a block; with one of 252 they take two", "
+    @brew, @load, add #15x255 #1x251, wj 1, add #15x255 #1x252, wj 2, aj 1, aj 2, cl 3, land 1, ac 3, crash, @front
+    replay #15x255 #1x251, replay #15x255 #1x252"),
+("journal-full", "`wj` refused by 8 where blocks and written exceed N; a location commit makes room, and the next write goes round", "
+    disk 2 4096 0 0 0 16384 4096 0 0 0 16384 4096, @load, add 41, wj 1, aj 1, freeze, loc 20480 5, add #16x255
+    wj 2 =8, wj 2 3 =8, co 3, land 1, ac 3, wj 2 =9, wj 2 3, aj 2, aj 3, add 42, wj 4 =8"),
+("sixteen-in-flight", "16 journal writes in flight, counted by their ids: 8 before 9; an id in flight is a 5 even then", "
+    disk 20 4096 0 0 0 90112 4096 0 0 0 90112 4096, @load
+    add 01, wj 1, add 02, wj 2, add 03, wj 3, add 04, wj 4, add 05, wj 5, add 06, wj 6, add 07, wj 7, add 08, wj 8
+    add 09, wj 9, add 0a, wj 10, add 0b, wj 11, add 0c, wj 12, add 0d, wj 13, add 0e, wj 14, add 0f, wj 15
+    add 10, wj 16 17 =8, wj 16 1 =5, wj 16, add 11, wj 17 =8, wj 17 18 =8, wj 1 =5, wj 1 17 =8, aj 8, wj 17, aj 17, crash"),
+("one-row-left", "15 in flight, and a write that goes round: it needs two rows, so 8, however many ids it brings; with two rows left 9", "
+    disk 17 4096 0 1 0 77824 4096 0 0 0 77824 4096, @load
+    add 01, wj 1, add 02, wj 2, add 03, wj 3, add 04, wj 4, add 05, wj 5, add 06, wj 6, add 07, wj 7, add 08, wj 8
+    add 09, wj 9, add 0a, wj 10, add 0b, wj 11, add 0c, wj 12, add 0d, wj 13, add 0e, wj 14, add 0f, wj 15
+    add #16x255, wj 16 =8, wj 16 16 =8, wj 16 17 =8, wj 1 =5, aj 1, wj 16 =9, wj 16 16 =9, wj 16 17, crash"),
+("log-commit", "`cl`, `ac`, `land`: writes or frozen entries left (6), a commit in flight (6), an answer before the landing (6), landings that come again", "
+    @brew, @load, ac 1 =5, land 0 =6, land 1 =6, land 2 =4, add 41, wj 1, cl 2 =6, aj 1, cl 2, cl 3 =6, co 3 =6, freeze =6
+    ac 1 =5, ac 2 =6, land 0 =6, land 1, land 1, ac 3 =5, ac 2, ac 2 =5, land 1 =6
+    add 42, freeze, cl 4 =6, wj 3, cl 4 =6, aj 3, cl 4, land 1 =6, land 0, land 0, ac 4, cl 4, land 1, ac 4, crash, @front, replay 41 42"),
+("location-commit", "`co`: no location, writes or frozen entries left (6); it drops the ranges before the mark, keeps those after, moves start and takes the location", "
+    @brew, @load, add 41, wj 1, aj 1, co 2 =6, freeze, co 2 =6, add 42, loc 45056 77, wj 3, co 2 =6, aj 3, add 43, co 2
+    co 4 =6, cl 4 =6, ac 2 =6, land 1, ac 2, co 4 =6, freeze, loc 40960 1, co 5 =6, wj 5, aj 5, co 5, land 0, ac 5
+    crash, @load, add 44, wj 3, crash, @load"),
+("location-commit-kept", "a location commit lands, and the crash comes before its answer: the load shows the new start, length and location", "
+    @brew, @load, add 41, wj 1, add 42, wj 2, aj 1, aj 2, freeze, add 43, wj 3, loc 45056 9, aj 3, co 4, land 1, crash
+    @front, replay 43, freeze, loc 45056 9, freeze =6"),
+("log-commit-frozen", "a log commit with a location received keeps start and location, and what is frozen; the location commit after it takes them", "
+    @brew, @load, add 41, wj 1, aj 1, freeze, loc 45056 7, add 42, wj 2, aj 2, cl 3, land 1, ac 3, loc 45056 8 =6, co 4, land 0, ac 4, crash
+    @front, replay 42, freeze, loc 45056 7, freeze =6"),
+("freeze-and-location", "`freeze`: a commit in flight, the superblock's own location received, replay entries left (6). `loc`: address or length out of range (4), not frozen or received already (6)", "
+    @brew, @load, loc 45056 1 =6, freeze, loc 45057 1 =4, loc 8192 1 =4, loc 0 1 =4, loc 45056 0 =4, loc 45056 4097 =4
+    loc 18446744073709551615 1 =4, loc 40960 18446744073709551615 =4, loc 45056 4096, loc 45056 4096 =6, loc 0 1 =4, freeze, loc 40960 4096, freeze =6
+    co 1, loc 45056 1 =6, freeze =6, land 1, ac 1, loc 45056 1 =6, freeze, add 41, freeze, wj 1, aj 1, cl 2, land 0, ac 2
+    crash, @front, freeze =6, replay 41, freeze"),
+("frozen-first", "a journal write sends the frozen entries where there are any, and those in memory stay", "
+    @brew, @load, add 41, freeze, add 42, wj 1, wj 2, add 43, freeze, add 44, freeze, add 45, wj 3, freeze, wj 4
+    aj 1, aj 2, aj 3, aj 4, cl 5, land 1, ac 5, crash, @front, replay 41 42 43 44 45"),
+("add", "`add`: 0 to 16 entries of 1 to 255 bytes; 17 entries or one of 256 bytes (4), replay entries left (6)", "
+    @brew, @load, add, add 41, add 00, add #16x1, add #17x1 =4, add #1x255, add #1x256 =4, add 41 #1x300 =4, add #20x256 =4
+    wj 1, aj 1, cl 2, land 1, ac 2, crash, @front, add 41 =6, add =6, add #17x1 =4, replay 41 00, replay #16x1, add 41 =6, replay #1x255, add 41, crash"),
+("pending-entries", "1,024 entries pending, frozen ones included; one more is an 8, none more is taken", "
+    @brew, @load, @64, @64, @64, @64, @64, @64, @64, @64, @64, @64, @64, @64, @64, @64, @64, add #16x1, add #16x1, add #16x1, freeze, add #15x1, add #2x1 =8, add #1x1, add #1x1 =8, add, wj 1, aj 1, add #1x1, wj 2, aj 2, cl 3, land 1, crash
+    @front, replay #16x1"),
+("pending-bytes", "65,536 bytes pending; one more is an 8", "
+    disk 20 4096 0 0 0 90112 4096 0 0 0 90112 4096, @load, @16320, @16320, @16320, @16320, freeze, add #1x255, add #1x2 =8, add #1x1, add #1x1 =8, add
+    wj 1, wj 2, aj 1, aj 2, cl 3, land 1, ac 3, crash, @front, replay #16x255"),
+("replay", "`replay`: right, empty, wrong (6), more than is left (6), 17 entries or one of 256 bytes (4), behind the end (6); commits don't wait for it", "
+    @brew, @load, replay, replay 41 =6, add 41 00 43 #1x255, wj 1, add #14x1, wj 2, aj 1, aj 2, cl 3, land 1, ac 3, crash, @front
+    replay, replay 42 =6, replay 41 01 =6, replay 4100 =6, replay 41, replay 41 =6, replay 00 43 44 =6, replay 00 43, replay #17x1 =4, replay #1x256 =4
+    add 41 =6, freeze =6, cl 1, replay #1x254 =6, replay #1x255, land 0, ac 1, replay #15x1 =6, replay #14x1, replay #1x1 =6, replay, add 45, freeze"),
+("sync-requests", "`push`, `pop`: State3 at the push, State2 at a write of entries in memory or at a freeze, State1 at a commit's answer; an id known (5), unknown (5), not yet at State1 (6)", "
+    @brew, push 1, push 1 =5, pop 2 =5, pop 1 =6, @load, push 2, add 41, wj 1, push 3, pop 2 =6, aj 1, cl 2, push 4, pop 1 =6, land 1, pop 1 =6, ac 2
+    pop 1, pop 1 =5, push 1, pop 3 =6, freeze, push 5, cl 3, land 0, ac 3, pop 3, pop 5 =6, pop 2, pop 4, pop 1, crash, pop 5 =5, push 5"),
+("sync-idle", "a request on an idle store stays at State3 through commits, until a freeze; writing frozen entries leaves it there too", "
+    @brew, @load, push 1, cl 2, land 1, ac 2, pop 1 =6, add 41, freeze, push 2, wj 3, aj 3, cl 4, land 0, ac 4, pop 1, pop 2 =6, freeze, cl 5, land 1, ac 5, pop 2"),
+("sync-full", "32 sync requests; the 33rd is an 8, a known id a 5 even then", "
+    @brew, push 0, push 1, push 2, push 3, push 4, push 5, push 6, push 7, push 8, push 9, push 10, push 11, push 12, push 13, push 14, push 15
+    push 16, push 17, push 18, push 19, push 20, push 21, push 22, push 23, push 24, push 25, push 26, push 27, push 28, push 29, push 30, push 18446744073709551615
+    push 31 =8, push 30 =5, @load, push 31 =8, freeze, cl 3, land 1, ac 3, pop 7, push 31, push 32 =8, crash, push 32"),
+// The wrong turns, and what stands beside them.
+("turn-larger-counter", "wrong turn 1, choosing the larger counter: 2^64 - 1 and 0 select slot 2", "
+    disk 8 4096 18446744073709551615 1 0 40960 4096 0 2 0 45056 4096, @load"),
+("turn-larger-counter-2", "wrong turn 1: 0 and 2^64 - 1 select slot 1", "
+    disk 8 4096 0 1 0 40960 4096 18446744073709551615 2 0 45056 4096, @load"),
+("counters-7-8", "counters 7 and 8 select slot 2", "
+    disk 8 4096 7 1 0 40960 4096 8 2 0 45056 4096, @load"),
+("counters-7-7", "equal counters select slot 1", "
+    disk 8 4096 7 1 0 40960 4096 7 2 0 45056 4096, @load"),
+("counters-7-9", "counters 7 and 9 select slot 1: 9 doesn't follow 7", "
+    disk 8 4096 7 1 0 40960 4096 9 2 0 45056 4096, @load"),
+("counters-8-7", "counters 8 and 7 select slot 1", "
+    disk 8 4096 8 1 0 40960 4096 7 2 0 45056 4096, @load"),
+("turn-current-slot", "wrong turn 2, writing the current slot: a commit goes to the other slot, in turn", "
+    @brew, @load, add 41, wj 1, aj 1, cl 2, land 0 =6, land 1, ac 2, cl 3, land 1 =6, land 0, ac 3, cl 4, land 0 =6, crash
+    @front, replay 41, cl 5, land 0 =6, land 1, ac 5"),
+("turn-sync-at-request", "wrong turn 3, moving sync requests on when a commit is sent: they reach State1 at its answer; one pushed meanwhile stays at State3", "
+    @brew, @load, add 41, push 1, wj 1, aj 1, cl 2, push 2, pop 1 =6, land 1, pop 1 =6, ac 2, pop 1, pop 2 =6"),
+// Wraps.
+("counter-wrap", "commits take the counter from 2^64 - 2 to 2^64 - 1, 0 and 1; each crash loads the newest", "
+    disk 8 4096 18446744073709551614 0 0 40960 4096 18446744073709551613 0 0 40960 4096, @load, cl 1, land 1, ac 1, crash, @load
+    cl 1, land 0, crash, @load, cl 1, land 1, crash, @load"),
+("ring-wrap", "N = 3: writes and location commits take the journal round the ring, and start past its end", "
+    disk 3 4096 0 0 0 20480 4096 0 0 0 20480 4096, @load, add 41, wj 1, aj 1, add 42, wj 1, aj 1, freeze, loc 24576 1, co 2, land 1, ac 2
+    add #16x255, wj 1 =9, wj 1 1 =9, wj 1 2, aj 1, aj 2, cl 3, land 0, ac 3, crash, @pieces, replay #16x255
+    freeze, add 43, loc 20480 1, wj 1, aj 1, co 2, land 1, ac 2, crash, @front, replay 43, add 44, wj 5, aj 5, cl 6, land 0, crash, @front, replay 43 44"),
+// Crashes.
+("crash-before-landing", "a commit that hasn't landed is lost: the load shows the record before it", "
+    @brew, @load, add 41, wj 1, aj 1, cl 2, land 1, ac 2, add 42, wj 3, aj 3, cl 4, crash, ac 4 =5, land 0 =6, @front, replay 41"),
+("crash-after-landing", "a commit that has landed, answered or not, once or twice, is kept: its counter steps once", "
+    @brew, @load, add 41, wj 1, aj 1, cl 2, land 1, land 1, crash, ac 2 =5, @front, replay 41, cl 3, land 0, ac 3, crash, @front, replay 41"),
+("crash-in-flight", "journal writes in flight at a crash: their blocks stay on the disk, the journal doesn't show them", "
+    @brew, @load, add 41, wj 1, aj 1, cl 2, land 1, ac 2, add 42, wj 3, add 43, wj 4, aj 3, crash, aj 4 =5, @front, replay 41, add 44, wj 4, aj 4, cl 5, land 0, crash
+    @front, replay 41 44"),
+("crash-while-loading", "a crash at each point of a load: reads are forgotten and their ids free", "
+    @brew, @load, add 41, wj 1, aj 1, cl 2, land 1, crash, rs 0 1, crash, as 0 1 =5, rs 0 1, rs 1 2, as 0 1, crash
+    @superblocks, rj 0 1, crash, ar 1 =5, @superblocks, rj 0 1, ar 1, crash, @front, crash, @front, replay 41"),
+// Disks and lines.
+("smallest-disk", "N = 1 and T = 1", "
+    disk 1 1 0 0 0 12288 1 0 0 0 12289 1, @load, add 41, wj 1, aj 1, add 42, wj 1 =8, freeze, loc 12289 2 =4, loc 12289 1, cl 2 =6, crash
+    @load, add 43, wj 1, aj 1, cl 2, land 1, crash, @front, replay 43, freeze, loc 12289 1, co 2, land 0, ac 2, add 44, wj 1, aj 1"),
+("largest-disk", "N = 32 and T = 16,777,216", "
+    disk 32 16777216 5 31 0 139264 16777216 6 31 0 16916480 16777216, @load, add #16x255, wj 1 2, aj 1, aj 2
+    freeze, loc 139264 16777217 =4, loc 139264 16777216, co 3, land 0, ac 3, crash, @load"),
+("ill-superblock", "a slot that isn't selected starts at N: no step is taken, each is a 2, before any other question", "
+    disk 8 4096 0 0 0 40960 4096 0 8 0 40960 4096
+    wj 1 =2, aj 1 =2, cl 1 =2, co 1 =2, ac 1 =2, rs 0 1 =2, rs 2 1 =2, as 0 1 =2, xs 0 1 =2, rj 0 1 =2, ar 1 =2, xr 1 =2, f1 =2, f2 =2
+    freeze =2, loc 40960 1 =2, add 41 =2, add #17x1 =2, replay 41 =2, push 1 =2, pop 1 =2, noop =2, again 0 =2, land 0 =2, crash =2, ? brew, noop =2"),
+("ill-superblock-len", "a slot of N + 1 blocks: 2", "
+    disk 8 4096 0 0 9 40960 4096 1 0 0 40960 4096, noop =2, rs 0 1 =2, crash =2"),
+("ill-superblock-address", "a slot whose table has neither address: 2", "
+    disk 8 4096 0 0 0 40961 4096 0 0 0 40960 4096, noop =2, rs 0 1 =2, crash =2"),
+("ill-superblock-empty-table", "a slot whose table has no bytes: 2", "
+    disk 8 4096 0 0 0 40960 0 0 0 0 40960 4096, noop =2, rs 0 1 =2, crash =2"),
+("ill-superblock-long-table", "a slot whose table has T + 1 bytes: 2", "
+    disk 8 4096 0 0 0 40960 4096 0 0 0 45056 4097, noop =2, rs 0 1 =2, crash =2"),
+("full-superblock", "slots at their bounds (start N - 1, length N, table 2 of T bytes) are well formed", "
+    disk 8 4096 3 7 0 45056 4096 3 7 8 40960 1, noop, @load"),
+("spelling", "blanks are runs of spaces, tabs, form feeds and carriage returns; digits of either case; zeros may lead; a line of 16,384 bytes is a step", "
+    \tdisk  8 \x0c4096 0 00 000 40960 4096\r 0 0 0 0040960 4096 \r
+    rs\t0\t1, \x0crs  1   2\r, as 0 00000000000000000000000000000000000001, \r\tas 1 2 \t, f1 ^16384, f2\r
+    add 4a 4B fF, add\x0c, add 4C ^16384, wj 1, aj 1, cl 2, land 1, crash, @front, replay 4A 4b Ff 4c"),
+("not-steps", "lines that aren't steps say so with their number, and alter nothing; the lines after them are played", "
+    @brew, ?, ? \t, ? brew, ? rs, ? rs 0, ? rs 0 1 2, rs 0 1, ? RS 1 2, ? rs 1 -2, ? rs 1 +2, ? rs 1 0x2, ? rs 1 2., ? rs 1 18446744073709551616
+    ? rs 1 99999999999999999999, ? rs\x0b1 2, ? rs 1 2\x00, rs 1 2, ? as, as 0 1, ? as 1 2 ^16385, ? as 1 2 ^40000, as 1 2, ? f1 1, ? f 1, f1, ? f3, f2
+    ? wj, ? wj 1 2 3, ? wj one, ? aj, ? aj 1 2, ? cl, ? cl 1 2, ? co, ? ac, ? xs 1, ? rj 1, ? ar, ? xr, ? xr 1 2, ? freeze 1, ? loc 40960, ? loc 40960 1 1
+    ? add 4, ? add 4g, ? add 41 4, ? add 0x41, ? add 41;42, ? add é1, ? replay 123, ? replay x, ? push, ? push -1, ? push 1 2, ? pop x, ? pop, ? noop noop
+    ? again, ? again 0 1, ? land, ? land 0 1, ? crash 0, ? crash now, ? noopnoop, ? addd 41, ? disk 8 4096 0 0 0 40960 4096 0 0 0 40960 4096
+    ? add 41 ^16385, add 41, wj 1"),
+("no-last-line-feed", "a last line without its line feed counts", "@brew, noop, rs 0 1~"),
+("no-disk", "the first line is a step: nothing more is read, and there is no header", "
+    ! rs 0 1\nnoop"),
+("no-disk-33-blocks", "N = 33", "! disk 33 4096 0 0 0 143360 4096 0 0 0 143360 4096\nnoop"),
+("no-disk-0-blocks", "N = 0", "! disk 0 4096 0 0 0 8192 4096 0 0 0 8192 4096\nnoop"),
+("no-disk-0-table", "T = 0", "! disk 8 0 0 0 0 40960 0 0 0 0 40960 0\nnoop"),
+("no-disk-long-table", "T = 16,777,217", "! disk 8 16777217 0 0 0 40960 1 0 0 0 40960 1\nnoop"),
+("no-disk-11-numbers", "a number is missing", "! disk 8 4096 0 0 0 40960 4096 0 0 0 40960\nnoop"),
+("no-disk-13-numbers", "a number too many", "! disk 8 4096 0 0 0 40960 4096 0 0 0 40960 4096 0\nnoop"),
+("no-disk-65-bits", "a counter of 2^64", "! disk 8 4096 18446744073709551616 0 0 40960 4096 0 0 0 40960 4096\nnoop"),
+("no-disk-long-line", "a disk line of 16,385 bytes", "! disk 8 4096 0 0 0 40960 4096 0 0 0 40960 4096 ^16385\nnoop"),
+("no-disk-no-line", "no line at all", ""),
+("no-disk-empty-line", "an empty line first", "!\ndisk 8 4096 0 0 0 40960 4096 0 0 0 40960 4096"),
+];
