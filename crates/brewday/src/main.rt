@@ -5,10 +5,10 @@ mod day;
 mod row;
 
 use day::Day;
-use disk::Slots;
 use layout::Location;
 use libc::STDIN_FILENO;
 use libc::STDOUT_FILENO;
+use requests::Slots;
 use store::Store;
 use superblock::MaybeSuperblock;
 use superblock::Superblock;
@@ -57,7 +57,7 @@ fn run(
 }
 
 // Is there more on standard input than was read?
-fn is_cut(read: usize) -> bool {
+fn is_longer(read: usize) -> bool {
     if read < 65536 {
         return false;
     }
@@ -76,6 +76,14 @@ fn main() {
     let mut blocks = [0u8; 32768];
     let mut marks = [0u8; 8];
     let n = io::read_full(STDIN_FILENO, &mut input);
+    let more = is_longer(n);
+    if more {
+        io::write_all(
+            STDOUT_FILENO,
+            b"the input is longer than 65536 bytes: no line of it was run\n",
+        );
+        return;
+    }
     io::write_all(STDOUT_FILENO, b"n r k c s l w\n");
     run(
         &input[..n],
@@ -87,8 +95,4 @@ fn main() {
         &mut blocks,
         &mut marks,
     );
-    let cut = is_cut(n);
-    if cut {
-        io::write_all(STDOUT_FILENO, b"the input is cut after 65536 bytes\n");
-    }
 }

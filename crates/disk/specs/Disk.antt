@@ -1,27 +1,17 @@
--- The disk's record: document 01's limits of its tables, a disk without requests, its parts put in place of others, and what a call answers.
+-- The disk's record: a disk without requests, its parts put in place of others, and what a call answers.
 use Prim.Native.Nat.{ℕ}
 use mathlib.Core.Bool.{cond}
 use lib.Dec.{eqb}
 use Rattle.tables.specs.declared.interval_table.IntervalTable.{IntervalTable}
 use Rattle.tables.specs.IdTable.{noIds}
 use Rattle.tables.specs.IntervalTable.{noIntervals}
-use Rattle.disk.specs.declared.slots.Slots.{Slots}
-use Rattle.disk.specs.declared.slots.SuperblockReads.{SuperblockReads}
-use Rattle.disk.specs.declared.slots.SuperblockWrite.the-variants as write
-use Rattle.disk.specs.declared.slots.SuperblockWrites.{SuperblockWrites}
+use Rattle.requests.specs.declared.slots.Slots.{Slots}
+use Rattle.requests.specs.declared.slots.SuperblockReads.{SuperblockReads}
+use Rattle.requests.specs.declared.slots.SuperblockWrite.the-variants as write
+use Rattle.requests.specs.declared.slots.SuperblockWrites.{SuperblockWrites}
 use Rattle.disk.specs.declared.disk.Disk.{Disk}
 use Rattle.disk.specs.declared.disk.DiskAnswer.the-variants as answer
 use Rattle.disk.specs.declared.disk.DiskStepped.{DiskStepped}
-
--- superblock reads of each slot, journal reads, journal writes
-abbrev pub MostSuperblockReads : ℕ
-MostSuperblockReads = 8
-
-abbrev pub MostJournalReads : ℕ
-MostJournalReads = 8
-
-abbrev pub MostJournalWrites : ℕ
-MostJournalWrites = 16
 
 -- no requests
 abbrev pub idleDisk : Slots → Disk

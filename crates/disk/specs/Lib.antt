@@ -1,9 +1,6 @@
-pub mod Slots
 pub mod Disk
 pub mod Questions
-pub mod Receive
-pub mod Acknowledge
-pub mod Landing
+pub mod Next
 pub mod Memory
 pub mod Operation
 pub mod Whole

@@ -11,7 +11,7 @@ use Rattle.interval.specs.Interval.{interval}
 use Rattle.superblock.specs.declared.disk_op.MaybeId.{MaybeId}
 use Rattle.journal.specs.Memory.{askSize, copyBlocks}
 use Rattle.tables.specs.declared.interval_table.IntervalTable.{IntervalTable}
-use Rattle.disk.specs.Receive.{askRecvWriteJournal}
+use Rattle.requests.specs.Receive.{askRecvWriteJournal}
 
 -- the blocks that `new` takes from `start` on: a part of a block at its end is a 4
 abbrev pub newInterval : ℕ → List ℕ → JournalInterval

@@ -16,8 +16,10 @@ use Rattle.disk.specs.declared.disk.DiskAnswer.the-variants as answer
 use Rattle.disk.specs.declared.disk.JournalAcked.{JournalAcked}
 use Rattle.disk.specs.declared.disk.JournalAnswer.{JournalAnswer}
 use Rattle.disk.specs.declared.disk.JournalAnswer.the-variants as journalAnswer
-use Rattle.disk.specs.Receive.{askRecvReadSuperblock, askRecvReadJournal, askRecvWriteSuperblock, askRecvWriteJournal, recvReadSuperblockNext, recvReadJournalNext, recvWriteSuperblockNext, recvWriteJournalNext}
-use Rattle.disk.specs.Acknowledge.{askReadSuperblockAs, heldInterval, askAckReadJournal, askAckWriteSuperblock, askAckWriteJournal, ackReadSuperblockNext, ackReadJournalNext, ackWriteSuperblockNext, ackWriteJournalNext}
+use Rattle.requests.specs.Receive.{askRecvReadSuperblock, askRecvReadJournal, askRecvWriteSuperblock, askRecvWriteJournal}
+use Rattle.disk.specs.Next.{recvReadSuperblockNext, recvReadJournalNext, recvWriteSuperblockNext, recvWriteJournalNext}
+use Rattle.requests.specs.Acknowledge.{askReadSuperblockAs, heldInterval, askAckReadJournal, askAckWriteSuperblock, askAckWriteJournal}
+use Rattle.disk.specs.Next.{ackReadSuperblockNext, ackReadJournalNext, ackWriteSuperblockNext, ackWriteJournalNext}
 use Rattle.disk.specs.Memory.{askNewBlocks, readOut}
 
 unfoldable pub isWhole : JournalRead → Bool

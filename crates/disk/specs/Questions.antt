@@ -9,9 +9,9 @@ use Rattle.journal.specs.Memory.{askBlocks, askJournal}
 use Rattle.tables.specs.declared.interval_table.IntervalTable.{IntervalTable}
 use Rattle.tables.specs.Rows.{counted}
 use Rattle.tables.specs.IntervalTable.{validIntervals}
-use Rattle.disk.specs.declared.slots.SuperblockReads.{SuperblockReads}
+use Rattle.requests.specs.declared.slots.SuperblockReads.{SuperblockReads}
 use Rattle.disk.specs.declared.disk.Disk.{Disk}
-use Rattle.disk.specs.Disk.{MostSuperblockReads, MostJournalReads, MostJournalWrites}
+use Rattle.requests.specs.Limits.{MostSuperblockReads, MostJournalReads, MostJournalWrites}
 
 unfoldable pub readsOk : SuperblockReads → Bool
 readsOk r =

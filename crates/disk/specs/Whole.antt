@@ -14,12 +14,15 @@ use Rattle.disk.specs.declared.disk.Disk.{Disk}
 use Rattle.disk.specs.declared.disk.DiskStepped.{DiskStepped}
 use Rattle.disk.specs.declared.disk.SuperblockAcked.{SuperblockAcked}
 use Rattle.disk.specs.declared.disk.JournalAcked.{JournalAcked}
-use Rattle.disk.specs.Slots.{slotAt}
+use Rattle.requests.specs.Slots.{slotAt}
 use Rattle.disk.specs.Disk.{answered}
 use Rattle.disk.specs.Questions.{askDisk, askDiskOut}
-use Rattle.disk.specs.Receive.{askRecvReadSuperblock, askRecvReadJournal, askRecvWriteSuperblock, recvReadSuperblockNext, recvReadJournalNext, recvWriteSuperblockNext, recvWriteJournalNext}
-use Rattle.disk.specs.Acknowledge.{readFrom, askAckReadSuperblock, superblockAnswered, heldInterval, askAckReadJournal, journalAnswered, askAckWriteSuperblock, askAckWriteJournal, ackReadSuperblockNext, ackReadJournalNext, ackWriteSuperblockNext, ackWriteJournalNext}
-use Rattle.disk.specs.Landing.{askLand, landNext}
+use Rattle.requests.specs.Receive.{askRecvReadSuperblock, askRecvReadJournal, askRecvWriteSuperblock}
+use Rattle.disk.specs.Next.{recvReadSuperblockNext, recvReadJournalNext, recvWriteSuperblockNext, recvWriteJournalNext}
+use Rattle.requests.specs.Acknowledge.{readFrom, askAckReadSuperblock, heldInterval, askAckReadJournal, askAckWriteSuperblock, askAckWriteJournal}
+use Rattle.disk.specs.Next.{superblockAnswered, journalAnswered, ackReadSuperblockNext, ackReadJournalNext, ackWriteSuperblockNext, ackWriteJournalNext}
+use Rattle.requests.specs.Landing.{askLand}
+use Rattle.disk.specs.Next.{landNext}
 use Rattle.disk.specs.Memory.{newInterval, askNewBlocks, readOut}
 use Rattle.disk.specs.Operation.{askOperation, operationNext, operationBlocks, operationMarks, operationOut}
 

@@ -1,9 +1,12 @@
 // The disk's record: two slots, and the requests that wait. Its blocks and marks are lent beside it.
-use super::slots::Slots;
-use super::slots::SuperblockReads;
-use super::slots::SuperblockWrite;
-use super::slots::SuperblockWrites;
 use interval::JournalInterval;
+use requests::MOST_JOURNAL_READS;
+use requests::MOST_JOURNAL_WRITES;
+use requests::MOST_SUPERBLOCK_READS;
+use requests::Slots;
+use requests::SuperblockReads;
+use requests::SuperblockWrite;
+use requests::SuperblockWrites;
 use superblock::SuperblockRead;
 use tables::IdTable;
 use tables::IntervalTable;
@@ -52,13 +55,6 @@ pub struct JournalAcked {
 }
 
 impl Disk {
-    // How many requests of each kind may wait: superblock reads of each slot, journal reads, journal writes.
-    pub const MOST_SUPERBLOCK_READS: usize = 8;
-
-    pub const MOST_JOURNAL_READS: usize = 8;
-
-    pub const MOST_JOURNAL_WRITES: usize = 16;
-
     // A disk without requests.
     pub fn idle(slots: Slots) -> Disk
         ensures { λ r. ⌜ r ≡ idleDisk slots ⌝ }

@@ -2,64 +2,12 @@
 use super::disk::Disk;
 use super::disk::DiskAnswer;
 use super::disk::DiskStepped;
-use super::slots::Slots;
-use super::slots::SuperblockWrite;
-use super::slots::SuperblockWrites;
-use super::slots::ask_which;
-use superblock::MaybeSuperblock;
+use requests::ask_land;
+use requests::slots_landed;
 ghost use mathlib.Core.Path.{_≡_};
 ghost use Rattle.disk.specs.Disk.{answered};
-ghost use Rattle.disk.specs.Landing.{inFlight, landingOn, askLand, slotsLanded, landNext};
-
-fn in_flight(write: SuperblockWrite) -> bool
-    ensures { λ r. ⌜ r ≡ inFlight write ⌝ }
-{
-    match write {
-        SuperblockWrite::Writing {
-            id: _,
-            superblock: _,
-        } => true,
-        SuperblockWrite::NoWrite => false,
-    }
-}
-
-// What the slot holds after the landing.
-fn landing_on(slot: MaybeSuperblock, write: SuperblockWrite) -> MaybeSuperblock
-    ensures { λ r. ⌜ r ≡ landingOn slot write ⌝ }
-{
-    match write {
-        SuperblockWrite::Writing {
-            id: _,
-            superblock: s,
-        } => MaybeSuperblock::Holds(s),
-        SuperblockWrite::NoWrite => slot,
-    }
-}
-
-// Questions 4 and 6 of a landing.
-fn ask_land(writes: SuperblockWrites, which: u64) -> u8
-    ensures { λ r. ⌜ r ≡ askLand writes which ⌝ }
-{
-    let q = ask_which(which);
-    if q != 0 {
-        return q;
-    }
-    let write = writes.at(which);
-    let b = in_flight(write);
-    if b {
-        return 0;
-    }
-    6
-}
-
-fn slots_landed(slots: Slots, writes: SuperblockWrites, which: u64) -> Slots
-    ensures { λ r. ⌜ r ≡ slotsLanded slots writes which ⌝ }
-{
-    let slot = slots.at(which);
-    let write = writes.at(which);
-    let next = landing_on(slot, write);
-    slots.put(which, next)
-}
+ghost use Rattle.requests.specs.Landing.{askLand};
+ghost use Rattle.disk.specs.Next.{landNext};
 
 impl Disk {
     // After questions 1 and 2; no step by itself.

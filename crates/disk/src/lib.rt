@@ -1,6 +1,6 @@
 // The disk (source 001, but for the crash): two superblock slots and the requests that wait; N blocks and N marks are lent beside it. The
 // public face:
-//   Disk                                           the record, and its limits; `idle`, one without requests
+//   Disk                                           the record; `idle`, one without requests
 //   ok, ask_state, ask, ask_with_buffer            question 2, and questions 1 and 2
 //   recv_read_superblock, recv_read_journal        a request is received: a read,
 //   recv_write_superblock, recv_write_journal      or a write
@@ -19,7 +19,6 @@ mod memory;
 mod operation;
 mod questions;
 mod receive;
-mod slots;
 mod whole;
 
 pub use disk::Disk;
@@ -29,7 +28,3 @@ pub use disk::JournalAcked;
 pub use disk::JournalAnswer;
 pub use disk::SuperblockAcked;
 pub use disk::SuperblockAnswer;
-pub use slots::Slots;
-pub use slots::SuperblockReads;
-pub use slots::SuperblockWrite;
-pub use slots::SuperblockWrites;

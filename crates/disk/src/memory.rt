@@ -4,18 +4,19 @@ use super::disk::DiskAnswer;
 use super::disk::DiskStepped;
 use super::disk::JournalAcked;
 use super::disk::JournalAnswer;
-use super::receive::ask_recv_write_journal;
-use super::receive::write_received;
 use interval::JournalInterval;
 use layout::Geometry;
+use requests::ask_recv_write_journal;
+use requests::write_received;
 use superblock::MaybeId;
 use tables::IntervalTable;
 ghost use mathlib.Core.Path.{_≡_};
 ghost use Rattle.laws.specs.Choice.{unless};
 ghost use Rattle.journal.specs.Memory.{updateBytes, updateMarks};
 ghost use Rattle.disk.specs.Disk.{answered};
-ghost use Rattle.disk.specs.Receive.{recvWriteJournalNext};
-ghost use Rattle.disk.specs.Acknowledge.{heldInterval, askAckReadJournal, journalAnswered, ackReadJournalNext};
+ghost use Rattle.disk.specs.Next.{recvWriteJournalNext};
+ghost use Rattle.requests.specs.Acknowledge.{heldInterval, askAckReadJournal};
+ghost use Rattle.disk.specs.Next.{journalAnswered, ackReadJournalNext};
 ghost use Rattle.disk.specs.Memory.{askNewBlocks, readOut};
 
 // Questions 4 to 9 of a journal write whose blocks are `new`.

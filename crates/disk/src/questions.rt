@@ -1,7 +1,10 @@
 // Questions 1 and 2: the lent memory, and the state.
 use super::disk::Disk;
-use super::slots::SuperblockReads;
 use layout::Geometry;
+use requests::MOST_JOURNAL_READS;
+use requests::MOST_JOURNAL_WRITES;
+use requests::MOST_SUPERBLOCK_READS;
+use requests::SuperblockReads;
 use tables::IntervalTable;
 ghost use mathlib.Core.Path.{_≡_};
 ghost use Rattle.disk.specs.Questions.{readsOk, intervalsOk, diskOk, askState, askDisk, askDiskOut};
@@ -12,8 +15,8 @@ fn reads_ok(reads: SuperblockReads) -> bool
 {
     let first = reads.first;
     let second = reads.second;
-    let a = first.ok(Disk::MOST_SUPERBLOCK_READS);
-    let b = second.ok(Disk::MOST_SUPERBLOCK_READS);
+    let a = first.ok(MOST_SUPERBLOCK_READS);
+    let b = second.ok(MOST_SUPERBLOCK_READS);
     a & b
 }
 
@@ -35,8 +38,8 @@ impl Disk {
         let journal_reads = self.journalReads;
         let journal_writes = self.journalWrites;
         let a = reads_ok(reads);
-        let b = intervals_ok(g, Self::MOST_JOURNAL_READS, journal_reads);
-        let c = intervals_ok(g, Self::MOST_JOURNAL_WRITES, journal_writes);
+        let b = intervals_ok(g, MOST_JOURNAL_READS, journal_reads);
+        let c = intervals_ok(g, MOST_JOURNAL_WRITES, journal_writes);
         a & (b & c)
     }
 

@@ -14,7 +14,7 @@ use Rattle.superblock.specs.declared.disk_op.MaybeSuperblock.{MaybeSuperblock}
 use Rattle.superblock.specs.declared.disk_op.MaybeSuperblock.the-variants as slot
 use Rattle.superblock.specs.Superblock.{SelectSuperblock, wfSuperblock}
 use Rattle.tables.specs.declared.interval_table.IntervalTable.{IntervalTable}
-use Rattle.disk.specs.declared.slots.Slots.{Slots}
+use Rattle.requests.specs.declared.slots.Slots.{Slots}
 
 -- both slots
 abbrev pub slotWf : Geometry → MaybeSuperblock → Bool

@@ -18,11 +18,11 @@ use Rattle.ready.specs.declared.ready.Ready.{Ready}
 use Rattle.ready.specs.State.{commitSlot}
 use Rattle.machine.specs.declared.machine.Machine.{Machine}
 use Rattle.machine.specs.Machine.{byKind}
-use Rattle.disk.specs.declared.slots.SuperblockReads.{SuperblockReads}
-use Rattle.disk.specs.declared.slots.SuperblockWrite.{SuperblockWrite}
-use Rattle.disk.specs.declared.slots.SuperblockWrite.the-variants as write
-use Rattle.disk.specs.declared.slots.SuperblockWrites.{SuperblockWrites}
-use Rattle.disk.specs.Slots.{putWrite}
+use Rattle.requests.specs.declared.slots.SuperblockReads.{SuperblockReads}
+use Rattle.requests.specs.declared.slots.SuperblockWrite.{SuperblockWrite}
+use Rattle.requests.specs.declared.slots.SuperblockWrite.the-variants as write
+use Rattle.requests.specs.declared.slots.SuperblockWrites.{SuperblockWrites}
+use Rattle.requests.specs.Slots.{putWrite}
 use Rattle.joined.specs.declared.awaits.AwaitedRead.{AwaitedRead}
 use Rattle.joined.specs.declared.awaits.AwaitedRead.the-variants as read
 use Rattle.joined.specs.declared.awaits.AwaitedReads.{AwaitedReads}

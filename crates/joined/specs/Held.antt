@@ -12,10 +12,10 @@ use Rattle.tables.specs.declared.interval_table.Held.the-variants as held
 use Rattle.tables.specs.Rows.{sameIds}
 use Rattle.tables.specs.IdTable.{noIds, addedId}
 use Rattle.tables.specs.IntervalTable.{intervalMap, heldOf}
-use Rattle.disk.specs.declared.slots.SuperblockReads.{SuperblockReads}
-use Rattle.disk.specs.declared.slots.SuperblockWrite.{SuperblockWrite}
-use Rattle.disk.specs.declared.slots.SuperblockWrite.the-variants as write
-use Rattle.disk.specs.declared.slots.SuperblockWrites.{SuperblockWrites}
+use Rattle.requests.specs.declared.slots.SuperblockReads.{SuperblockReads}
+use Rattle.requests.specs.declared.slots.SuperblockWrite.{SuperblockWrite}
+use Rattle.requests.specs.declared.slots.SuperblockWrite.the-variants as write
+use Rattle.requests.specs.declared.slots.SuperblockWrites.{SuperblockWrites}
 use Rattle.joined.specs.declared.awaits.AwaitedRead.{AwaitedRead}
 use Rattle.joined.specs.declared.awaits.AwaitedRead.the-variants as read
 use Rattle.joined.specs.declared.awaits.AwaitedReads.{AwaitedReads}

@@ -1,7 +1,7 @@
 // The slots, and journal writes in flight: do they overlap neither each other nor the interval of the selected superblock?
-use disk::Slots;
 use interval::JournalInterval;
 use layout::Geometry;
+use requests::Slots;
 use runs::lesser;
 use superblock::MaybeSuperblock;
 use superblock::select_superblock;

@@ -1,7 +1,4 @@
 // What a machine awaits, in the form in which the disk holds it. What its kind lacks, it does not await.
-use disk::SuperblockReads;
-use disk::SuperblockWrite;
-use disk::SuperblockWrites;
 use interval::JournalInterval;
 use interval::MaybeInterval;
 use layout::Geometry;
@@ -13,6 +10,9 @@ use machine::Kind;
 use machine::Machine;
 use ready::Commit;
 use ready::Ready;
+use requests::SuperblockReads;
+use requests::SuperblockWrite;
+use requests::SuperblockWrites;
 use tables::IdTable;
 ghost use mathlib.Core.Path.{_≡_};
 ghost use Rattle.joined.specs.Awaited.{slotIds, readUnder, pieceAwaited, piecesAwaited, commitWrite, noReads, noPieces, noWrites, commitWrites, superblocksAwait, otherAwaits, readyAwaits, awaitedBy};

@@ -1,10 +1,10 @@
 // Does the disk hold exactly what is awaited?
 use super::awaits::AwaitedRead;
 use super::awaits::AwaitedReads;
-use disk::SuperblockReads;
-use disk::SuperblockWrite;
-use disk::SuperblockWrites;
 use interval::JournalInterval;
+use requests::SuperblockReads;
+use requests::SuperblockWrite;
+use requests::SuperblockWrites;
 use runs::lesser;
 use tables::Held;
 use tables::IdTable;

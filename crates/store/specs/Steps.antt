@@ -30,10 +30,12 @@ use Rattle.machine.specs.Sync.{askPushSyncReq, pushSyncReqMachine, askPopSyncRe
 use Rattle.disk.specs.declared.disk.Disk.{Disk}
 use Rattle.disk.specs.declared.disk.DiskAnswer.{DiskAnswer}
 use Rattle.disk.specs.declared.disk.DiskAnswer.the-variants as disk
-use Rattle.disk.specs.Slots.{slotAt, slotOf}
-use Rattle.disk.specs.Acknowledge.{readFrom, heldInterval, askAckReadJournal, ackReadJournalNext}
+use Rattle.requests.specs.Slots.{slotAt, slotOf}
+use Rattle.requests.specs.Acknowledge.{readFrom, heldInterval, askAckReadJournal}
+use Rattle.disk.specs.Next.{ackReadJournalNext}
 use Rattle.disk.specs.Operation.{askDecision, operationNext}
-use Rattle.disk.specs.Landing.{askLand, landNext}
+use Rattle.requests.specs.Landing.{askLand}
+use Rattle.disk.specs.Next.{landNext}
 use Rattle.crash.specs.Whole.{crashedDisk}
 use Rattle.store.specs.declared.store.Store.{Store}
 use Rattle.store.specs.declared.store.StoreStepped.{StoreStepped}

@@ -1,11 +1,11 @@
 // The store's state, what a step answers, and a step of the machine with its operation at the disk.
 use disk::Disk;
 use disk::DiskAnswer;
-use disk::Slots;
 use layout::Geometry;
 use machine::Machine;
 use machine::MachineAnswer;
 use machine::MachineStepped;
+use requests::Slots;
 use superblock::DiskOp;
 ghost use mathlib.Core.Path.{_≡_};
 ghost use Rattle.machine.specs.Machine.{initialMachine};

@@ -16,7 +16,7 @@ use Rattle.tables.specs.declared.interval_table.IntervalTable.{IntervalTable}
 use Rattle.tables.specs.Rows.{Counted}
 use Rattle.tables.specs.IntervalTable.{intervalMap, noIntervals}
 use Rattle.tables.specs.Laws.IntervalTables.{intervals-empty, sized-no-intervals, facts-valid}
-use Rattle.disk.specs.declared.slots.Slots.{Slots}
+use Rattle.requests.specs.declared.slots.Slots.{Slots}
 use Rattle.disk.specs.declared.disk.Disk.{Disk}
 use Rattle.disk.specs.Disk.{idleDisk}
 use Rattle.disk.specs.Questions.{askState, askDisk}

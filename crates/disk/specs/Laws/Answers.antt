@@ -18,7 +18,8 @@ use Rattle.disk.specs.declared.disk.SuperblockAnswer.the-variants as sup
 use Rattle.disk.specs.declared.disk.JournalAcked.{JournalAcked}
 use Rattle.disk.specs.declared.disk.JournalAnswer.the-variants as journalAnswer
 use Rattle.disk.specs.Disk.{refused, answered}
-use Rattle.disk.specs.Acknowledge.{superblockRefused, superblockAnswered, heldInterval, askAckReadJournal, journalRefused, journalAnswered}
+use Rattle.disk.specs.Next.{superblockRefused, superblockAnswered, journalRefused, journalAnswered}
+use Rattle.requests.specs.Acknowledge.{heldInterval, askAckReadJournal}
 use Rattle.disk.specs.Memory.{readOut}
 use Rattle.disk.specs.Operation.{isWhole, asStepped}
 

@@ -11,7 +11,7 @@ use Rattle.superblock.specs.declared.disk_op.MaybeId.{MaybeId}
 use Rattle.journal.specs.Memory.{askSize, copyBlocks}
 use Rattle.journal.specs.Asked.{size-asked, asked-size}
 use Rattle.tables.specs.declared.interval_table.IntervalTable.{IntervalTable}
-use Rattle.disk.specs.Receive.{askRecvWriteJournal}
+use Rattle.requests.specs.Receive.{askRecvWriteJournal}
 use Rattle.disk.specs.Memory.{askNewBlocks, readOut}
 
 module _ (g : Geometry) (t : IntervalTable) (id1 : ℕ) (id2 : MaybeId) (v : JournalInterval) (new : List ℕ) where

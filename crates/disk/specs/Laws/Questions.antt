@@ -11,7 +11,7 @@ use Rattle.tables.specs.Rows.{Counted}
 use Rattle.tables.specs.IntervalTable.{validIntervals}
 use Rattle.tables.specs.Laws.Counts.{counted-facts, facts-counted}
 use Rattle.disk.specs.declared.disk.Disk.{Disk}
-use Rattle.disk.specs.Disk.{MostSuperblockReads, MostJournalReads, MostJournalWrites}
+use Rattle.requests.specs.Limits.{MostSuperblockReads, MostJournalReads, MostJournalWrites}
 use Rattle.disk.specs.Questions.{readsOk, intervalsOk, diskOk, askState, askDisk, askDiskOut}
 
 -- question 2 by its parts

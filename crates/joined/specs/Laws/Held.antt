@@ -16,11 +16,11 @@ use Rattle.tables.specs.IdTable.{idSet, addedId}
 use Rattle.tables.specs.IntervalTable.{intervalMap, SizedIntervals, heldOf}
 use Rattle.tables.specs.Laws.Places.{same-sets, sets-same}
 use Rattle.tables.specs.Laws.IntervalTables.{same-facts, facts-same}
-use Rattle.disk.specs.declared.slots.SuperblockReads.{SuperblockReads}
-use Rattle.disk.specs.declared.slots.SuperblockWrite.{SuperblockWrite}
-use Rattle.disk.specs.declared.slots.SuperblockWrite.the-variants as write
-use Rattle.disk.specs.declared.slots.SuperblockWrites.{SuperblockWrites}
-use Rattle.disk.specs.Laws.Pairs.{readPair}
+use Rattle.requests.specs.declared.slots.SuperblockReads.{SuperblockReads}
+use Rattle.requests.specs.declared.slots.SuperblockWrite.{SuperblockWrite}
+use Rattle.requests.specs.declared.slots.SuperblockWrite.the-variants as write
+use Rattle.requests.specs.declared.slots.SuperblockWrites.{SuperblockWrites}
+use Rattle.requests.specs.Laws.Pairs.{readPair}
 use Rattle.joined.specs.declared.awaits.AwaitedRead.{AwaitedRead}
 use Rattle.joined.specs.declared.awaits.AwaitedRead.the-variants as read
 use Rattle.joined.specs.declared.awaits.AwaitedReads.{AwaitedReads}

@@ -24,11 +24,12 @@ use Rattle.source.specs.Limits.{limits}
 use Rattle.source.specs.Meets.{DiskMeets}
 use Rattle.disk.specs.declared.disk.Disk.{Disk}
 use Rattle.disk.specs.declared.disk.DiskAnswer.the-variants as answer
-use Rattle.disk.specs.Slots.{readsAt}
-use Rattle.disk.specs.Receive.{askRecvReadSuperblock, recvReadSuperblockNext, askRecvReadJournal, recvReadJournalNext, rowsFor, secondFits, recvWriteJournalNext}
+use Rattle.requests.specs.Slots.{readsAt}
+use Rattle.requests.specs.Receive.{askRecvReadSuperblock, askRecvReadJournal, rowsFor, secondFits}
+use Rattle.disk.specs.Next.{recvReadSuperblockNext, recvReadJournalNext, recvWriteJournalNext}
 use Rattle.disk.specs.Memory.{newInterval, askNewBlocks}
 use Rattle.disk.specs.Whole.{recvReadSuperblock, recvReadJournal, recvWriteJournal}
-use Rattle.disk.specs.Laws.Receive.{recv-read-superblock-full, asks-recv-read-superblock, asks-recv-read-journal, recv-read-journal-full, asks-recv-write-journal, recv-write-journal-full, new-second, new-none, one-straight, two-wrapped, rows-straight, rows-wrapped}
+use Rattle.requests.specs.Laws.Receive.{recv-read-superblock-full, asks-recv-read-superblock, asks-recv-read-journal, recv-read-journal-full, asks-recv-write-journal, recv-write-journal-full, new-second, new-none, one-straight, two-wrapped, rows-straight, rows-wrapped}
 use Rattle.disk.specs.Laws.Memory.{asks-new-blocks, new-blocks-full}
 use Rattle.refine.specs.Disk.View.{diskOf, SizedDisk, DiskTables, Lent}
 use Rattle.refine.specs.Disk.Calls.{done-by, refused-by}

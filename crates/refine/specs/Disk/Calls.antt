@@ -17,7 +17,7 @@ use Rattle.disk.specs.declared.disk.SuperblockAcked.{SuperblockAcked}
 use Rattle.disk.specs.declared.disk.SuperblockAnswer.the-variants as superblockAnswer
 use Rattle.disk.specs.Disk.{answered}
 use Rattle.disk.specs.Questions.{askDisk}
-use Rattle.disk.specs.Acknowledge.{superblockAnswered}
+use Rattle.disk.specs.Next.{superblockAnswered}
 use Rattle.disk.specs.Laws.Answers.{done-asked, asked-done, asked-refused, read-asked, asked-read}
 use Rattle.refine.specs.Disk.View.{diskOf, SizedDisk, DiskTables, Lent}
 use Rattle.refine.specs.Disk.Meets.{Met, disk-met, met-disk}

@@ -33,14 +33,18 @@ use Rattle.disk.specs.declared.disk.DiskAnswer.the-variants as answer
 use Rattle.disk.specs.declared.disk.JournalAcked.{JournalAcked}
 use Rattle.disk.specs.declared.disk.JournalAnswer.the-variants as journalAnswer
 use Rattle.disk.specs.Questions.{askDisk, askDiskOut}
-use Rattle.disk.specs.Receive.{askRecvReadJournal, recvReadJournalNext}
-use Rattle.disk.specs.Acknowledge.{heldInterval, askAckReadJournal, ackReadJournalNext}
+use Rattle.requests.specs.Receive.{askRecvReadJournal}
+use Rattle.disk.specs.Next.{recvReadJournalNext}
+use Rattle.requests.specs.Acknowledge.{heldInterval, askAckReadJournal}
+use Rattle.disk.specs.Next.{ackReadJournalNext}
 use Rattle.disk.specs.Memory.{readOut}
 use Rattle.disk.specs.Whole.{recvReadJournal, askReadJournal, ackReadJournal, ackReadJournalOut}
 use Rattle.disk.specs.Laws.Answers.{refused-same, journal-read, journal-refused, asked-journal-read, journal-same}
 use Rattle.disk.specs.Laws.Questions.{out-disk, out-blocks, asks-out}
-use Rattle.disk.specs.Laws.Receive.{recv-read-journal-asked, asks-recv-read-journal, recv-read-journal-next}
-use Rattle.disk.specs.Laws.Acknowledge.{held-is, ack-read-journal-waiting, ack-read-journal-full, asks-ack-read-journal, ack-read-journal-next}
+use Rattle.requests.specs.Laws.Receive.{recv-read-journal-asked, asks-recv-read-journal}
+use Rattle.disk.specs.Laws.Next.{recv-read-journal-next}
+use Rattle.requests.specs.Laws.Acknowledge.{held-is, ack-read-journal-waiting, ack-read-journal-full, asks-ack-read-journal}
+use Rattle.disk.specs.Laws.Next.{ack-read-journal-next}
 use Rattle.disk.specs.Laws.Memory.{out-whole}
 use Rattle.refine.specs.Disk.View.{diskOf, SizedDisk, DiskTables, Lent}
 use Rattle.refine.specs.Disk.Meets.{Met, disk-met, met-disk, counted-own}

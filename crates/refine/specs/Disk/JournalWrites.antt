@@ -37,13 +37,17 @@ use Rattle.disk.specs.declared.disk.DiskStepped.{DiskStepped}
 use Rattle.disk.specs.declared.disk.DiskAnswer.the-variants as answer
 use Rattle.disk.specs.Disk.{withJournalWrites}
 use Rattle.disk.specs.Questions.{askDisk}
-use Rattle.disk.specs.Receive.{isNew, rowsFor, secondFits, writeReceived, recvWriteJournalNext}
-use Rattle.disk.specs.Acknowledge.{askAckWriteJournal, ackWriteJournalNext}
+use Rattle.requests.specs.Receive.{isNew, rowsFor, secondFits, writeReceived}
+use Rattle.disk.specs.Next.{recvWriteJournalNext}
+use Rattle.requests.specs.Acknowledge.{askAckWriteJournal}
+use Rattle.disk.specs.Next.{ackWriteJournalNext}
 use Rattle.disk.specs.Memory.{newInterval, askNewBlocks}
 use Rattle.disk.specs.Whole.{askWriteJournal, recvWriteJournal, recvWriteJournalBlocks, recvWriteJournalMarks, ackWriteJournal}
 use Rattle.disk.specs.Laws.Answers.{done-asked, asked-done, refused-same, refused-asked}
-use Rattle.disk.specs.Laws.Receive.{RecvWriteJournalAsked, recv-write-journal-asked, asks-recv-write-journal, second-new, new-second, new-none, straight-one, one-straight, wrapped-two, two-wrapped, rows-straight, rows-wrapped, write-straight, write-wrapped, recv-write-journal-next}
-use Rattle.disk.specs.Laws.Acknowledge.{ack-write-journal-waiting, asks-ack-write-journal, ack-write-journal-next}
+use Rattle.requests.specs.Laws.Receive.{RecvWriteJournalAsked, recv-write-journal-asked, asks-recv-write-journal, second-new, new-second, new-none, straight-one, one-straight, wrapped-two, two-wrapped, rows-straight, rows-wrapped, write-straight, write-wrapped}
+use Rattle.disk.specs.Laws.Next.{recv-write-journal-next}
+use Rattle.requests.specs.Laws.Acknowledge.{ack-write-journal-waiting, asks-ack-write-journal}
+use Rattle.disk.specs.Laws.Next.{ack-write-journal-next}
 use Rattle.disk.specs.Laws.Memory.{new-blocks-size, new-blocks-rows, asks-new-blocks}
 use Rattle.refine.specs.Disk.View.{diskOf, SizedDisk, DiskTables, Lent}
 use Rattle.refine.specs.Disk.Meets.{Met, counted-own}

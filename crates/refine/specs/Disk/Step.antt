@@ -32,12 +32,12 @@ use Rattle.disk.specs.declared.disk.Disk.{Disk}
 use Rattle.disk.specs.declared.disk.DiskStepped.{DiskStepped}
 use Rattle.disk.specs.declared.disk.DiskAnswer.the-variants as answer
 use Rattle.disk.specs.Questions.{askDiskOut}
-use Rattle.disk.specs.Acknowledge.{heldInterval, askAckReadJournal}
+use Rattle.requests.specs.Acknowledge.{heldInterval, askAckReadJournal}
 use Rattle.disk.specs.Memory.{readOut}
 use Rattle.disk.specs.Operation.{isWhole, askOperation, operationNext, operationBlocks, operationMarks, operationOut}
 use Rattle.disk.specs.Whole.{askStep, step, stepBlocks, stepMarks, stepOut}
 use Rattle.disk.specs.Laws.Answers.{done-asked, asked-done, refused-asked, refused-same}
-use Rattle.disk.specs.Laws.Pairs.{bitOf, whichOf, which-in, bit-which}
+use Rattle.requests.specs.Laws.Pairs.{bitOf, whichOf, which-in, bit-which}
 use Rattle.disk.specs.Laws.Operation.{whole-is, damaged-is}
 use Rattle.disk.specs.Laws.Questions.{out-disk, out-blocks, asks-out}
 use Rattle.refine.specs.Disk.View.{diskOf, SizedDisk, DiskTables, Lent}

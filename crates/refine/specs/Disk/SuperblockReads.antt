@@ -24,19 +24,23 @@ use Rattle.source.specs.JournalDisk as D
 use Rattle.source.specs.JournalDisk.{ReqReadSuperblockOp, RespReadSuperblockOp}
 use Rattle.source.specs.Limits.{limits}
 use Rattle.source.specs.Within.{Operation, DiskAllowed, DiskWithin}
-use Rattle.disk.specs.declared.slots.SuperblockReads.{SuperblockReads}
+use Rattle.requests.specs.declared.slots.SuperblockReads.{SuperblockReads}
 use Rattle.disk.specs.declared.disk.Disk.{Disk}
 use Rattle.disk.specs.declared.disk.DiskAnswer.the-variants as answer
 use Rattle.disk.specs.declared.disk.SuperblockAnswer.the-variants as superblockAnswer
-use Rattle.disk.specs.Slots.{slotAt, readsAt, putReads}
+use Rattle.requests.specs.Slots.{slotAt, readsAt, putReads}
 use Rattle.disk.specs.Questions.{askDisk}
-use Rattle.disk.specs.Receive.{askRecvReadSuperblock, recvReadSuperblockNext}
-use Rattle.disk.specs.Acknowledge.{mayRead, readFrom, askAckReadSuperblock, holdsRead, askReadSuperblockAs, ackReadSuperblockNext}
+use Rattle.requests.specs.Receive.{askRecvReadSuperblock}
+use Rattle.disk.specs.Next.{recvReadSuperblockNext}
+use Rattle.requests.specs.Acknowledge.{mayRead, readFrom, askAckReadSuperblock, holdsRead, askReadSuperblockAs}
+use Rattle.disk.specs.Next.{ackReadSuperblockNext}
 use Rattle.disk.specs.Whole.{recvReadSuperblock, ackReadSuperblock}
 use Rattle.disk.specs.Laws.Answers.{refused-same, superblock-same}
-use Rattle.disk.specs.Laws.Pairs.{bitOf, slotPair, readPair, slot-at, reads-at, reads-put}
-use Rattle.disk.specs.Laws.Receive.{recv-read-superblock-asked, asks-recv-read-superblock, recv-read-superblock-next}
-use Rattle.disk.specs.Laws.Acknowledge.{ack-read-superblock-waiting, ack-read-superblock-may, asks-ack-read-superblock, read-superblock-as-waiting, read-superblock-as-holds, asks-read-superblock-as, whole-held, held-whole, held-damaged, whole-holds, holds-whole, may-damaged, read-whole, read-damaged, ack-read-superblock-next}
+use Rattle.requests.specs.Laws.Pairs.{bitOf, slotPair, readPair, slot-at, reads-at, reads-put}
+use Rattle.requests.specs.Laws.Receive.{recv-read-superblock-asked, asks-recv-read-superblock}
+use Rattle.disk.specs.Laws.Next.{recv-read-superblock-next}
+use Rattle.requests.specs.Laws.Acknowledge.{ack-read-superblock-waiting, ack-read-superblock-may, asks-ack-read-superblock, read-superblock-as-waiting, read-superblock-as-holds, asks-read-superblock-as, whole-held, held-whole, held-damaged, whole-holds, holds-whole, may-damaged, read-whole, read-damaged}
+use Rattle.disk.specs.Laws.Next.{ack-read-superblock-next}
 use Rattle.refine.specs.Disk.View.{superblockIn, diskOf, SizedDisk, Table, DiskTables, Lent}
 use Rattle.refine.specs.Disk.Meets.{counted-own}
 use Rattle.refine.specs.Disk.Calls.{sound-by, complete-by, read-sound-by, read-complete-by}

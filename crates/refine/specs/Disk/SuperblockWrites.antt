@@ -13,23 +13,29 @@ use Rattle.source.specs.JournalDisk as D
 use Rattle.source.specs.JournalDisk.{ReqWriteSuperblock, ReqWriteSuperblockId, ReqWriteSuperblockOp, RespWriteSuperblockOp}
 use Rattle.source.specs.Limits.{limits}
 use Rattle.source.specs.Within.{Operation, Internal, DiskAllowed}
-use Rattle.disk.specs.declared.slots.Slots.{Slots}
-use Rattle.disk.specs.declared.slots.SuperblockWrite.{SuperblockWrite}
-use Rattle.disk.specs.declared.slots.SuperblockWrite.the-variants as write
-use Rattle.disk.specs.declared.slots.SuperblockWrites.{SuperblockWrites}
+use Rattle.requests.specs.declared.slots.Slots.{Slots}
+use Rattle.requests.specs.declared.slots.SuperblockWrite.{SuperblockWrite}
+use Rattle.requests.specs.declared.slots.SuperblockWrite.the-variants as write
+use Rattle.requests.specs.declared.slots.SuperblockWrites.{SuperblockWrites}
 use Rattle.disk.specs.declared.disk.Disk.{Disk}
 use Rattle.disk.specs.declared.disk.DiskAnswer.the-variants as answer
-use Rattle.disk.specs.Slots.{slotAt, putSlot, writeAt, putWrite, isWrite}
+use Rattle.requests.specs.Slots.{slotAt, putSlot, writeAt, putWrite, isWrite}
 use Rattle.disk.specs.Questions.{askDisk}
-use Rattle.disk.specs.Receive.{askRecvWriteSuperblock, recvWriteSuperblockNext}
-use Rattle.disk.specs.Acknowledge.{landed, askAckWriteSuperblock, ackWriteSuperblockNext}
-use Rattle.disk.specs.Landing.{inFlight, askLand, landingOn, landNext}
+use Rattle.requests.specs.Receive.{askRecvWriteSuperblock}
+use Rattle.disk.specs.Next.{recvWriteSuperblockNext}
+use Rattle.requests.specs.Acknowledge.{landed, askAckWriteSuperblock}
+use Rattle.disk.specs.Next.{ackWriteSuperblockNext}
+use Rattle.requests.specs.Landing.{inFlight, askLand, landingOn}
+use Rattle.disk.specs.Next.{landNext}
 use Rattle.disk.specs.Whole.{recvWriteSuperblock, ackWriteSuperblock, land}
 use Rattle.disk.specs.Laws.Answers.{refused-same}
-use Rattle.disk.specs.Laws.Pairs.{bitOf, slotPair, writePair, slot-put, write-at, write-put}
-use Rattle.disk.specs.Laws.Receive.{recv-write-superblock-asked, asks-recv-write-superblock, other-write, write-other, no-write, recv-write-superblock-next}
-use Rattle.disk.specs.Laws.Acknowledge.{ack-write-superblock-asked, asks-ack-write-superblock, is-write, write-is, landed-holds, holds-landed, ack-write-superblock-next}
-use Rattle.disk.specs.Laws.Landing.{land-asked, asks-land, flight-write, write-flight, landing-holds, land-next}
+use Rattle.requests.specs.Laws.Pairs.{bitOf, slotPair, writePair, slot-put, write-at, write-put}
+use Rattle.requests.specs.Laws.Receive.{recv-write-superblock-asked, asks-recv-write-superblock, other-write, write-other, no-write}
+use Rattle.disk.specs.Laws.Next.{recv-write-superblock-next}
+use Rattle.requests.specs.Laws.Acknowledge.{ack-write-superblock-asked, asks-ack-write-superblock, is-write, write-is, landed-holds, holds-landed}
+use Rattle.disk.specs.Laws.Next.{ack-write-superblock-next}
+use Rattle.requests.specs.Laws.Landing.{land-asked, asks-land, flight-write, write-flight, landing-holds}
+use Rattle.disk.specs.Laws.Next.{land-next}
 use Rattle.refine.specs.Disk.View.{superblockIn, writeIn, diskOf, SizedDisk, DiskTables, Lent}
 use Rattle.refine.specs.Disk.Calls.{sound-by, complete-by}
 use Rattle.refine.specs.Disk.SuperblockReads.{slot-view, holds-of}

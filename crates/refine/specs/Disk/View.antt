@@ -15,10 +15,10 @@ use Rattle.tables.specs.IdTable.{idSet, SizedIds}
 use Rattle.tables.specs.IntervalTable.{intervalMap, SizedIntervals}
 use Rattle.source.specs.JournalDisk as D
 use Rattle.source.specs.JournalDisk.{ReqWriteSuperblockId}
-use Rattle.disk.specs.declared.slots.SuperblockWrite.{SuperblockWrite}
-use Rattle.disk.specs.declared.slots.SuperblockWrite.the-variants as write
+use Rattle.requests.specs.declared.slots.SuperblockWrite.{SuperblockWrite}
+use Rattle.requests.specs.declared.slots.SuperblockWrite.the-variants as write
 use Rattle.disk.specs.declared.disk.Disk.{Disk}
-use Rattle.disk.specs.Laws.Pairs.{slotPair, readPair, writePair}
+use Rattle.requests.specs.Laws.Pairs.{slotPair, readPair, writePair}
 
 -- what a slot holds, and a write in flight
 abbrev pub superblockIn : MaybeSuperblock → Option Superblock

@@ -14,8 +14,9 @@ use Rattle.history.specs.Ledger as ledger
 use Rattle.history.specs.Ledger.{Call}
 use Rattle.history.specs.Statement.{Tied, Takes}
 use Rattle.machine.specs.Sync.{askPushSyncReq, pushSyncReqMachine, askPopSyncReq, popSyncReqMachine}
-use Rattle.disk.specs.Landing.{askLand, landNext}
-use Rattle.disk.specs.Laws.Landing.{land-asked}
+use Rattle.requests.specs.Landing.{askLand}
+use Rattle.disk.specs.Next.{landNext}
+use Rattle.requests.specs.Laws.Landing.{land-asked}
 use Rattle.store.specs.declared.store.Store.{Store}
 use Rattle.store.specs.declared.store.StoreAnswer.the-variants as answer
 use Rattle.store.specs.declared.store.StoreStepped.{StoreStepped}

@@ -13,9 +13,9 @@ use Rattle.source.specs.JournalDisk as D
 use Rattle.source.specs.Limits.{limits, DiskCounts}
 use Rattle.source.specs.Laws.Unique.{disk-next-one}
 use Rattle.disk.specs.declared.disk.Disk.{Disk}
-use Rattle.disk.specs.Acknowledge.{askReadSuperblockAs}
+use Rattle.requests.specs.Acknowledge.{askReadSuperblockAs}
 use Rattle.disk.specs.Operation.{askDecision, operationNext}
-use Rattle.disk.specs.Laws.Pairs.{bitOf}
+use Rattle.requests.specs.Laws.Pairs.{bitOf}
 use Rattle.refine.specs.Disk.View.{diskOf, SizedDisk}
 use Rattle.refine.specs.Disk.Meets.{Met}
 use Rattle.refine.specs.Disk.SuperblockReads as SuperblockReads

@@ -28,17 +28,19 @@ use Rattle.tables.specs.Laws.IdTables.{ids-added-ok, ids-removed-ok}
 use Rattle.tables.specs.Laws.RowTables.{rows-second, rows-few}
 use Rattle.tables.specs.Laws.IntervalTables.{intervals-added-ok, intervals-removed-ok, level-intervals}
 use Rattle.source.specs.Limits.{limits, DiskCounts}
-use Rattle.disk.specs.declared.slots.Slots.{Slots}
-use Rattle.disk.specs.declared.slots.SuperblockReads.{SuperblockReads}
+use Rattle.requests.specs.declared.slots.Slots.{Slots}
+use Rattle.requests.specs.declared.slots.SuperblockReads.{SuperblockReads}
 use Rattle.disk.specs.declared.disk.Disk.{Disk}
 use Rattle.disk.specs.Disk.{idleDisk}
-use Rattle.disk.specs.Slots.{readsAt, putReads}
-use Rattle.disk.specs.Receive.{readReceived, recvReadSuperblockNext, recvReadJournalNext, recvWriteSuperblockNext, addedPart, writeReceived, recvWriteJournalNext, rowsFor, secondFits}
-use Rattle.disk.specs.Acknowledge.{readAcked, ackReadSuperblockNext, intervalLeft, ackReadJournalNext, ackWriteSuperblockNext, ackWriteJournalNext}
+use Rattle.requests.specs.Slots.{readsAt, putReads}
+use Rattle.requests.specs.Receive.{readReceived, addedPart, writeReceived, rowsFor, secondFits}
+use Rattle.disk.specs.Next.{recvReadSuperblockNext, recvReadJournalNext, recvWriteSuperblockNext, recvWriteJournalNext}
+use Rattle.requests.specs.Acknowledge.{readAcked, intervalLeft}
+use Rattle.disk.specs.Next.{ackReadSuperblockNext, ackReadJournalNext, ackWriteSuperblockNext, ackWriteJournalNext}
 use Rattle.disk.specs.Operation.{askDecision, operationNext}
-use Rattle.disk.specs.Landing.{landNext}
+use Rattle.disk.specs.Next.{landNext}
 use Rattle.disk.specs.Laws.Questions.{DiskOk}
-use Rattle.disk.specs.Laws.Receive.{recv-read-superblock-asked, recv-read-journal-asked, RecvWriteJournalAsked, recv-write-journal-asked, second-new, straight-one, wrapped-two, rows-straight, rows-wrapped}
+use Rattle.requests.specs.Laws.Receive.{recv-read-superblock-asked, recv-read-journal-asked, RecvWriteJournalAsked, recv-write-journal-asked, second-new, straight-one, wrapped-two, rows-straight, rows-wrapped}
 use Rattle.crash.specs.Laws.Whole.{idle-ok}
 use Rattle.refine.specs.Store.PartsSized.{put-first, put-second}
 use Rattle.refine.specs.Disk.View.{diskOf, SizedDisk, DiskTables}

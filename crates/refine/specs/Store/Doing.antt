@@ -21,7 +21,7 @@ use Rattle.history.specs.Ledger.{Call}
 use Rattle.history.specs.Statement.{Tied}
 use Rattle.machine.specs.declared.machine.Machine.{Machine}
 use Rattle.disk.specs.Operation.{askDecision, operationNext}
-use Rattle.disk.specs.Laws.Pairs.{whichOf, which-in, bit-which}
+use Rattle.requests.specs.Laws.Pairs.{whichOf, which-in, bit-which}
 use Rattle.store.specs.declared.store.Store.{Store}
 use Rattle.store.specs.declared.calls.Step.{Step}
 use Rattle.store.specs.Store.{store}

@@ -14,8 +14,9 @@ use Rattle.source.specs.Within.{Within}
 use Rattle.history.specs.Ledger as ledger
 use Rattle.history.specs.Statement.{Tied}
 use Rattle.machine.specs.Sync.{askPushSyncReq, pushSyncReqMachine, askPopSyncReq, popSyncReqMachine}
-use Rattle.disk.specs.Landing.{askLand, landNext}
-use Rattle.disk.specs.Laws.Pairs.{whichOf, which-in, bit-which}
+use Rattle.requests.specs.Landing.{askLand}
+use Rattle.disk.specs.Next.{landNext}
+use Rattle.requests.specs.Laws.Pairs.{whichOf, which-in, bit-which}
 use Rattle.store.specs.declared.store.Store.{Store}
 use Rattle.store.specs.declared.calls.Step.the-variants as step
 use Rattle.store.specs.Store.{store}

@@ -15,8 +15,8 @@ use Rattle.source.specs.Departures.{Awaited, Source, MachineStep, Allowed}
 use Rattle.source.specs.Within.{Within}
 use Rattle.history.specs.Statement.{Tied}
 use Rattle.machine.specs.Working.{askWriteBackSuperblockRespStep, writeBackSuperblockRespOp, writeBackSuperblockRespMachine}
-use Rattle.disk.specs.Slots as disk
-use Rattle.disk.specs.Laws.Pairs.{whichOf, which-in}
+use Rattle.requests.specs.Slots as disk
+use Rattle.requests.specs.Laws.Pairs.{whichOf, which-in}
 use Rattle.store.specs.declared.store.Store.{Store}
 use Rattle.store.specs.declared.calls.Step.the-variants as step
 use Rattle.store.specs.Lent.{Lent, machineLent}

@@ -21,10 +21,10 @@ use Rattle.source.specs.Within.{Within}
 use Rattle.history.specs.Ledger as ledger
 use Rattle.history.specs.Statement.{Tied}
 use Rattle.machine.specs.Loading.{askPageInJournalReqStep, pageInJournalReqOp, pageInJournalReqMachine, askPageInSuperblockReqStep, pageInSuperblockReqOp, pageInSuperblockReqMachine, askPageInSuperblockRespStep, pageInSuperblockRespOp, pageInSuperblockRespMachine, askFinishLoadingSuperblockPhaseStep, finishLoadingSuperblockPhaseMachine, askAskAgainStep, askAgainMachine}
-use Rattle.disk.specs.Slots.{slotAt}
-use Rattle.disk.specs.Acknowledge.{readFrom}
-use Rattle.disk.specs.Laws.Pairs.{bitOf, whichOf, which-in, bit-which}
-use Rattle.disk.specs.Laws.Acknowledge.{read-whole, read-damaged}
+use Rattle.requests.specs.Slots.{slotAt}
+use Rattle.requests.specs.Acknowledge.{readFrom}
+use Rattle.requests.specs.Laws.Pairs.{bitOf, whichOf, which-in, bit-which}
+use Rattle.requests.specs.Laws.Acknowledge.{read-whole, read-damaged}
 use Rattle.store.specs.declared.store.Store.{Store}
 use Rattle.store.specs.declared.calls.Step.the-variants as step
 use Rattle.store.specs.Lent.{Lent, machineLent}

@@ -29,9 +29,10 @@ use Rattle.source.specs.Within.{AwaitedPiece, Within}
 use Rattle.history.specs.Ledger as ledger
 use Rattle.history.specs.Statement.{Tied, tied-paged, tied-damaged, unawaited-paged, unawaited-damaged}
 use Rattle.machine.specs.Loading.{pagedIn, pageInJournalRespOp, pageInJournalRespMachine, pagedPieces}
-use Rattle.disk.specs.Acknowledge.{heldInterval, askAckReadJournal, ackReadJournalNext}
+use Rattle.requests.specs.Acknowledge.{heldInterval, askAckReadJournal}
+use Rattle.disk.specs.Next.{ackReadJournalNext}
 use Rattle.disk.specs.Memory.{readOut}
-use Rattle.disk.specs.Laws.Acknowledge.{held-is}
+use Rattle.requests.specs.Laws.Acknowledge.{held-is}
 use Rattle.store.specs.declared.store.Store.{Store}
 use Rattle.store.specs.declared.calls.Step.the-variants as step
 use Rattle.store.specs.Store.{store}

@@ -22,7 +22,7 @@ use Rattle.history.specs.Ledger as ledger
 use Rattle.history.specs.Statement.{Tied, tied-write}
 use Rattle.machine.specs.Questions.{bodiesOf}
 use Rattle.machine.specs.Working.{askWriteBackJournalReqStep}
-use Rattle.disk.specs.Receive.{askRecvWriteJournal}
+use Rattle.requests.specs.Receive.{askRecvWriteJournal}
 use Rattle.disk.specs.Laws.Memory.{new-blocks-rows}
 use Rattle.store.specs.declared.store.Store.{Store}
 use Rattle.store.specs.declared.calls.Step.the-variants as step

@@ -28,7 +28,7 @@ use Rattle.history.specs.Ledger as ledger
 use Rattle.history.specs.Ledger.{Call}
 use Rattle.history.specs.Statement.{Tied, tied-add, tied-replay}
 use Rattle.history.specs.Calls.Called.{called-once, nonsense-refused}
-use Rattle.disk.specs.Laws.Pairs.{whichOf}
+use Rattle.requests.specs.Laws.Pairs.{whichOf}
 use Rattle.store.specs.declared.store.Store.{Store}
 use Rattle.store.specs.declared.store.StoreAnswer.{StoreAnswer}
 use Rattle.store.specs.declared.store.StoreAnswer.the-variants as answer

@@ -20,7 +20,7 @@ use Rattle.history.specs.Ledger as ledger
 use Rattle.history.specs.Ledger.{Call}
 use Rattle.history.specs.Statement.{Takes, Ran}
 use Rattle.history.specs.Calls.Called.{called-once}
-use Rattle.disk.specs.Laws.Pairs.{whichOf}
+use Rattle.requests.specs.Laws.Pairs.{whichOf}
 use Rattle.store.specs.declared.store.StoreAnswer.{StoreAnswer}
 use Rattle.store.specs.declared.store.StoreAnswer.the-variants as answer
 use Rattle.store.specs.declared.calls.Step.{Step}

@@ -19,7 +19,7 @@ use Rattle.source.specs.Limits.{limits}
 use Rattle.source.specs.Meets.{Joined, DiskMeets, SystemMeets, awaitedSuperblockReads, awaitedJournalReads, awaitedSuperblockWrites, awaitedJournalWrites}
 use Rattle.source.specs.Laws.Initial.{initial-meets}
 use Rattle.machine.specs.Machine.{initialMachine}
-use Rattle.disk.specs.declared.slots.Slots.{Slots}
+use Rattle.requests.specs.declared.slots.Slots.{Slots}
 use Rattle.disk.specs.Disk.{idleDisk}
 use Rattle.store.specs.declared.store.Store.{Store}
 use Rattle.store.specs.Store.{store}

@@ -33,12 +33,12 @@ use Rattle.source.specs.JournalSystem.{WFDisk}
 use Rattle.source.specs.Meets.{oneId, bindRead, newWrite, awaitedSuperblockReads, awaitedJournalReads, awaitedSuperblockWrites, awaitedJournalWrites, Joined}
 use Rattle.machine.specs.declared.machine.Machine.{Machine}
 use Rattle.machine.specs.Lent.{Lent}
-use Rattle.disk.specs.declared.slots.SuperblockWrite.{SuperblockWrite}
-use Rattle.disk.specs.declared.slots.SuperblockWrite.the-variants as write
-use Rattle.disk.specs.declared.slots.SuperblockWrites.{SuperblockWrites}
+use Rattle.requests.specs.declared.slots.SuperblockWrite.{SuperblockWrite}
+use Rattle.requests.specs.declared.slots.SuperblockWrite.the-variants as write
+use Rattle.requests.specs.declared.slots.SuperblockWrites.{SuperblockWrites}
 use Rattle.disk.specs.declared.disk.Disk.{Disk}
-use Rattle.disk.specs.Slots.{putWrite}
-use Rattle.disk.specs.Laws.Pairs.{readPair, writePair}
+use Rattle.requests.specs.Slots.{putWrite}
+use Rattle.requests.specs.Laws.Pairs.{readPair, writePair}
 use Rattle.joined.specs.declared.awaits.AwaitedRead.the-variants as read
 use Rattle.joined.specs.declared.awaits.Awaited.{Awaited}
 use Rattle.joined.specs.Awaited.{slotIds, pieceAwaited, piecesAwaited, commitWrite, commitWrites, superblocksAwait, otherAwaits, readyAwaits, awaitedBy}

@@ -29,7 +29,7 @@ use Rattle.ready.specs.declared.entries.Bodies.{Bodies}
 use Rattle.machine.specs.Questions.{bodiesOf}
 use Rattle.machine.specs.Working.{leftOf, sentOf, sentStart, askAdvanceStep, givenOf}
 use Rattle.machine.specs.Loading.{loadedBytes, askLoaded}
-use Rattle.disk.specs.Laws.Receive.{recv-write-journal-asked}
+use Rattle.requests.specs.Laws.Receive.{recv-write-journal-asked}
 use Rattle.store.specs.declared.store.Store.{Store}
 use Rattle.store.specs.declared.calls.Step.{Step}
 use Rattle.store.specs.declared.calls.Step.the-variants as step

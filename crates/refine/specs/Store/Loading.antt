@@ -24,11 +24,11 @@ use Rattle.history.specs.Ledger.{Call}
 use Rattle.history.specs.Statement.{Tied, Takes}
 use Rattle.machine.specs.declared.machine.Machine.{Machine}
 use Rattle.machine.specs.Loading.{askPageInJournalReqStep, pageInJournalReqOp, pageInJournalReqMachine, askPageInSuperblockReqStep, pageInSuperblockReqOp, pageInSuperblockReqMachine, askPageInSuperblockRespStep, pageInSuperblockRespOp, pageInSuperblockRespMachine, askFinishLoadingSuperblockPhaseStep, finishLoadingSuperblockPhaseMachine, askAskAgainStep, askAgainMachine}
-use Rattle.disk.specs.Slots.{slotAt}
-use Rattle.disk.specs.Acknowledge.{readFrom}
-use Rattle.disk.specs.Laws.Pairs.{bitOf}
-use Rattle.disk.specs.Laws.Receive.{recv-read-superblock-asked}
-use Rattle.disk.specs.Laws.Acknowledge.{read-whole, read-damaged}
+use Rattle.requests.specs.Slots.{slotAt}
+use Rattle.requests.specs.Acknowledge.{readFrom}
+use Rattle.requests.specs.Laws.Pairs.{bitOf}
+use Rattle.requests.specs.Laws.Receive.{recv-read-superblock-asked}
+use Rattle.requests.specs.Laws.Acknowledge.{read-whole, read-damaged}
 use Rattle.store.specs.declared.store.Store.{Store}
 use Rattle.store.specs.declared.store.StoreAnswer.the-variants as answer
 use Rattle.store.specs.declared.calls.Step.the-variants as step

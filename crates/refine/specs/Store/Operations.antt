@@ -13,11 +13,12 @@ use Rattle.superblock.specs.declared.disk_op.SuperblockRead.{SuperblockRead}
 use Rattle.superblock.specs.declared.disk_op.SuperblockRead.the-variants as read
 use Rattle.source.specs.JournalDisk as D
 use Rattle.disk.specs.declared.disk.Disk.{Disk}
-use Rattle.disk.specs.Acknowledge.{askReadSuperblockAs, ackReadSuperblockNext}
+use Rattle.requests.specs.Acknowledge.{askReadSuperblockAs}
+use Rattle.disk.specs.Next.{ackReadSuperblockNext}
 use Rattle.disk.specs.Operation.{askDecision, operationNext}
-use Rattle.disk.specs.Laws.Pairs.{bitOf}
-use Rattle.disk.specs.Laws.Receive.{recv-read-superblock-asked, recv-write-superblock-asked}
-use Rattle.disk.specs.Laws.Acknowledge.{read-superblock-as-waiting, ack-write-superblock-asked}
+use Rattle.requests.specs.Laws.Pairs.{bitOf}
+use Rattle.requests.specs.Laws.Receive.{recv-read-superblock-asked, recv-write-superblock-asked}
+use Rattle.requests.specs.Laws.Acknowledge.{read-superblock-as-waiting, ack-write-superblock-asked}
 use Rattle.refine.specs.Disk.View.{diskOf, SizedDisk}
 use Rattle.refine.specs.Disk.Meets.{Met}
 use Rattle.refine.specs.Disk.SuperblockReads as SuperblockReads

@@ -45,15 +45,17 @@ use Rattle.machine.specs.Machine.{byKind}
 use Rattle.machine.specs.Sync.{pushSyncReqMachine, popSyncReqMachine}
 use Rattle.machine.specs.Working.{sentSync, writtenMachine, writeBackJournalRespMachine, commitRequested, advanceLogMachine, advanceLocationMachine, answeredSync, commitAnswered, writeBackSuperblockRespMachine, freezeMachine, receiveFrozenLocMachine, advanceMachine, replayMachine}
 use Rattle.machine.specs.Loading.{pageInJournalReqMachine, pageInJournalRespMachine, pageInSuperblockReqMachine, pageInSuperblockRespMachine, finishLoadingSuperblockPhaseMachine, loadedMachine, askAgainMachine}
-use Rattle.disk.specs.declared.slots.Slots.{Slots}
-use Rattle.disk.specs.declared.slots.SuperblockReads.{SuperblockReads}
+use Rattle.requests.specs.declared.slots.Slots.{Slots}
+use Rattle.requests.specs.declared.slots.SuperblockReads.{SuperblockReads}
 use Rattle.disk.specs.declared.disk.Disk.{Disk}
 use Rattle.disk.specs.Disk.{idleDisk}
-use Rattle.disk.specs.Slots.{readsAt, putReads}
-use Rattle.disk.specs.Receive.{readReceived, recvReadSuperblockNext, recvReadJournalNext, recvWriteSuperblockNext, addedPart, writeReceived, recvWriteJournalNext}
-use Rattle.disk.specs.Acknowledge.{readAcked, ackReadSuperblockNext, intervalLeft, ackReadJournalNext, ackWriteSuperblockNext, ackWriteJournalNext}
+use Rattle.requests.specs.Slots.{readsAt, putReads}
+use Rattle.requests.specs.Receive.{readReceived, addedPart, writeReceived}
+use Rattle.disk.specs.Next.{recvReadSuperblockNext, recvReadJournalNext, recvWriteSuperblockNext, recvWriteJournalNext}
+use Rattle.requests.specs.Acknowledge.{readAcked, intervalLeft}
+use Rattle.disk.specs.Next.{ackReadSuperblockNext, ackReadJournalNext, ackWriteSuperblockNext, ackWriteJournalNext}
 use Rattle.disk.specs.Operation.{operationNext}
-use Rattle.disk.specs.Landing.{landNext}
+use Rattle.disk.specs.Next.{landNext}
 use Rattle.store.specs.Steps.{both}
 use Rattle.refine.specs.Disk.View.{SizedDisk}
 use Rattle.refine.specs.Disk.SuperblockReads.{reads-sized}

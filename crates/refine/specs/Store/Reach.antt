@@ -28,7 +28,7 @@ use Rattle.history.specs.Whole.First.{firstParity}
 use Rattle.history.specs.Reach.Reachable.{Reached, reached-init, reached-step}
 use Rattle.machine.specs.Questions.{bodiesOf}
 use Rattle.machine.specs.Working.{askAdvanceStep, askReplayGiven, askReplayStep}
-use Rattle.disk.specs.declared.slots.Slots.{Slots}
+use Rattle.requests.specs.declared.slots.Slots.{Slots}
 use Rattle.store.specs.declared.store.Store.{Store}
 use Rattle.store.specs.declared.store.StoreAnswer.the-variants as answer
 use Rattle.store.specs.declared.store.StoreStepped.{StoreStepped}

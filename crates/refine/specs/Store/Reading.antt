@@ -35,9 +35,10 @@ use Rattle.history.specs.Statement.{Takes, tied-paged, tied-damaged, unawaited-
 use Rattle.loading.specs.declared.other.Paged.{Paged}
 use Rattle.machine.specs.Questions.{askMachine}
 use Rattle.machine.specs.Loading.{pagedIn, pageInJournalRespOp, pageInJournalRespMachine, pagedPieces}
-use Rattle.disk.specs.Acknowledge.{heldInterval, ackReadJournalNext}
+use Rattle.requests.specs.Acknowledge.{heldInterval}
+use Rattle.disk.specs.Next.{ackReadJournalNext}
 use Rattle.disk.specs.Memory.{readOut}
-use Rattle.disk.specs.Laws.Acknowledge.{held-is, ack-read-journal-waiting}
+use Rattle.requests.specs.Laws.Acknowledge.{held-is, ack-read-journal-waiting}
 use Rattle.disk.specs.Laws.Memory.{out-whole}
 use Rattle.store.specs.declared.store.Store.{Store}
 use Rattle.store.specs.declared.store.StoreAnswer.the-variants as answer

@@ -12,7 +12,7 @@ use Rattle.source.specs.JournalSystem.{SuperblockOfDisk}
 use Rattle.history.specs.Ledger.{Ledger, begin, tell, books}
 use Rattle.history.specs.Statement.{Ran}
 use Rattle.history.specs.Whole.First.{firstParity}
-use Rattle.disk.specs.declared.slots.Slots.{Slots}
+use Rattle.requests.specs.declared.slots.Slots.{Slots}
 use Rattle.store.specs.declared.store.Store.{Store}
 use Rattle.store.specs.Lent.{Lent, machineLent, askStore}
 use Rattle.store.specs.Step.{stepped}

@@ -17,11 +17,11 @@ use Rattle.source.specs.JournalCache as M
 use Rattle.source.specs.JournalSystem as Y
 use Rattle.source.specs.Meets.{oneId, bindRead, newWrite, awaitedSuperblockReads, awaitedJournalReads, awaitedSuperblockWrites, awaitedJournalWrites, Joined}
 use Rattle.source.specs.Departures.{Awaited}
-use Rattle.disk.specs.declared.slots.SuperblockWrite.{SuperblockWrite}
-use Rattle.disk.specs.declared.slots.SuperblockWrite.the-variants as write
-use Rattle.disk.specs.declared.slots.SuperblockWrites.{SuperblockWrites}
-use Rattle.disk.specs.Slots.{isWrite, slotOf}
-use Rattle.disk.specs.Laws.Pairs.{whichOf}
+use Rattle.requests.specs.declared.slots.SuperblockWrite.{SuperblockWrite}
+use Rattle.requests.specs.declared.slots.SuperblockWrite.the-variants as write
+use Rattle.requests.specs.declared.slots.SuperblockWrites.{SuperblockWrites}
+use Rattle.requests.specs.Slots.{isWrite, slotOf}
+use Rattle.requests.specs.Laws.Pairs.{whichOf}
 use Rattle.refine.specs.Disk.View.{writeIn}
 
 -- one read, one of two in a map, and one write, as they are awaited

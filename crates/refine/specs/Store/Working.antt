@@ -20,7 +20,7 @@ use Rattle.history.specs.Ledger.{Call}
 use Rattle.history.specs.Statement.{Tied, Takes}
 use Rattle.machine.specs.declared.machine.Machine.{Machine}
 use Rattle.machine.specs.Working.{writeBackJournalRespOp, writeBackJournalRespMachine, askAdvanceLogStep, advanceLogOp, advanceLogMachine, askAdvanceLocationStep, advanceLocationOp, advanceLocationMachine, askWriteBackSuperblockRespStep, writeBackSuperblockRespOp, writeBackSuperblockRespMachine, askFreezeStep, freezeMachine, askReceiveFrozenLocStep, receiveFrozenLocMachine, askReplayGiven, askReplayStep, replayMachine}
-use Rattle.disk.specs.Slots.{slotOf}
+use Rattle.requests.specs.Slots.{slotOf}
 use Rattle.store.specs.declared.store.Store.{Store}
 use Rattle.store.specs.declared.store.StoreAnswer.the-variants as answer
 use Rattle.store.specs.declared.calls.Step.the-variants as step

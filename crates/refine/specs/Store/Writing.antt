@@ -32,8 +32,9 @@ use Rattle.ready.specs.Laws.Asked.{MayWrite, write-asked}
 use Rattle.machine.specs.declared.machine.Kind.the-variants as kind
 use Rattle.machine.specs.Questions.{bodiesOf}
 use Rattle.machine.specs.Working.{sentOf, sentRange, movedBytes, movedLens, askWriteBackJournalReqStep, writeBackJournalReqMachine}
-use Rattle.disk.specs.Receive.{askRecvWriteJournal, recvWriteJournalNext}
-use Rattle.disk.specs.Laws.Receive.{recv-write-journal-asked}
+use Rattle.requests.specs.Receive.{askRecvWriteJournal}
+use Rattle.disk.specs.Next.{recvWriteJournalNext}
+use Rattle.requests.specs.Laws.Receive.{recv-write-journal-asked}
 use Rattle.disk.specs.Laws.Memory.{asks-new-blocks}
 use Rattle.store.specs.declared.store.Store.{Store}
 use Rattle.store.specs.declared.store.StoreAnswer.the-variants as answer

@@ -33,9 +33,11 @@ use Rattle.disk.specs.declared.disk.DiskAnswer.the-variants as disk
 use Rattle.disk.specs.declared.disk.JournalAcked.{JournalAcked}
 use Rattle.disk.specs.declared.disk.JournalAnswer.the-variants as journalAnswer
 use Rattle.disk.specs.Disk as D
-use Rattle.disk.specs.Slots.{slotOf}
-use Rattle.disk.specs.Acknowledge.{heldInterval, askAckReadJournal, ackReadJournalNext, journalAnswered}
-use Rattle.disk.specs.Landing.{askLand, landNext}
+use Rattle.requests.specs.Slots.{slotOf}
+use Rattle.requests.specs.Acknowledge.{heldInterval, askAckReadJournal}
+use Rattle.disk.specs.Next.{ackReadJournalNext, journalAnswered}
+use Rattle.requests.specs.Landing.{askLand}
+use Rattle.disk.specs.Next.{landNext}
 use Rattle.disk.specs.Laws.Answers.{done-asked, asked-done, refused-asked, asked-refused, journal-refused, journal-read, asked-journal-read, journal-same}
 use Rattle.store.specs.declared.store.Store.{Store}
 use Rattle.store.specs.declared.store.StoreAnswer.the-variants as answer

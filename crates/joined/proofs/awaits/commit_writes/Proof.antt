@@ -1,5 +1,5 @@
 use Rattle.laws.specs.Choice.{tests}
-use Rattle.disk.specs.Slots.{putWrite}
+use Rattle.requests.specs.Slots.{putWrite}
 use Rattle.joined.specs.Awaited.{commitWrites}
 use borrow.Author.Needs.{needs}
 use Rattle.joined.proofs.awaits.commit_writes.Statement.{statement}

@@ -1,5 +1,5 @@
 use Rattle.laws.specs.Choice.{tests}
-use Rattle.disk.specs.Acknowledge.{journalAnswered, ackReadJournalNext}
+use Rattle.disk.specs.Next.{journalAnswered, ackReadJournalNext}
 use borrow.Author.Needs.{needs}
 use Rattle.disk.proofs.disk.Disk.ack_read_journal_asked.Statement.{statement}
 use Rattle.disk.proofs.disk.Disk.ack_read_journal_asked.Tie as tie

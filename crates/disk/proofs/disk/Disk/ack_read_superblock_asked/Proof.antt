@@ -1,5 +1,5 @@
 use Rattle.laws.specs.Choice.{tests}
-use Rattle.disk.specs.Acknowledge.{superblockAnswered, ackReadSuperblockNext}
+use Rattle.disk.specs.Next.{superblockAnswered, ackReadSuperblockNext}
 use borrow.Author.Needs.{needs}
 use Rattle.disk.proofs.disk.Disk.ack_read_superblock_asked.Statement.{statement}
 use Rattle.disk.proofs.disk.Disk.ack_read_superblock_asked.Tie as tie

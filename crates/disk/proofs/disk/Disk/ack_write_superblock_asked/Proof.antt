@@ -1,5 +1,5 @@
 use Rattle.laws.specs.Choice.{tests}
-use Rattle.disk.specs.Acknowledge.{ackWriteSuperblockNext}
+use Rattle.disk.specs.Next.{ackWriteSuperblockNext}
 use Rattle.disk.specs.Disk.{answered}
 use borrow.Author.Needs.{needs}
 use Rattle.disk.proofs.disk.Disk.ack_write_superblock_asked.Statement.{statement}

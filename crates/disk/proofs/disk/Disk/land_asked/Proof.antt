@@ -1,5 +1,5 @@
 use Rattle.laws.specs.Choice.{tests}
-use Rattle.disk.specs.Landing.{landNext}
+use Rattle.disk.specs.Next.{landNext}
 use Rattle.disk.specs.Disk.{answered}
 use borrow.Author.Needs.{needs}
 use Rattle.disk.proofs.disk.Disk.land_asked.Statement.{statement}

@@ -1,4 +1,4 @@
-use Rattle.disk.specs.Acknowledge.{ackReadJournalNext}
+use Rattle.disk.specs.Next.{ackReadJournalNext}
 use Rattle.disk.specs.Disk.{answered}
 use Rattle.laws.specs.Choice.{tests}
 use borrow.Author.Needs.{needs}

@@ -1,5 +1,5 @@
 use Rattle.laws.specs.Choice.{tests}
-use Rattle.disk.specs.Acknowledge.{ackReadSuperblockNext}
+use Rattle.disk.specs.Next.{ackReadSuperblockNext}
 use Rattle.disk.specs.Disk.{answered}
 use borrow.Author.Needs.{needs}
 use Rattle.disk.proofs.disk.Disk.read_superblock_as.Statement.{statement}

@@ -1,5 +1,5 @@
 use Rattle.laws.specs.Choice.{tests}
-use Rattle.disk.specs.Receive.{recvReadJournalNext}
+use Rattle.disk.specs.Next.{recvReadJournalNext}
 use Rattle.disk.specs.Disk.{answered}
 use borrow.Author.Needs.{needs}
 use Rattle.disk.proofs.disk.Disk.recv_read_journal_asked.Statement.{statement}

@@ -1,5 +1,5 @@
 use Rattle.laws.specs.Choice.{tests}
-use Rattle.disk.specs.Receive.{recvReadSuperblockNext}
+use Rattle.disk.specs.Next.{recvReadSuperblockNext}
 use Rattle.disk.specs.Disk.{answered}
 use borrow.Author.Needs.{needs}
 use Rattle.disk.proofs.disk.Disk.recv_read_superblock_asked.Statement.{statement}

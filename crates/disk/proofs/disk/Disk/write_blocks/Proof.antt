@@ -1,6 +1,6 @@
 use Rattle.laws.specs.Choice.{refused-kept}
 use Rattle.disk.specs.Disk.{withJournalWrites}
-use Rattle.disk.specs.Receive.{recvWriteJournalNext}
+use Rattle.disk.specs.Next.{recvWriteJournalNext}
 use Rattle.disk.specs.Laws.Answers.{answered-no, answered-yes, changed}
 use borrow.Author.Needs.{needs}
 use Rattle.disk.proofs.disk.Disk.write_blocks.Statement.{statement}
