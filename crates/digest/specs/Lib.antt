@@ -1,0 +1,3 @@
+pub mod Take
+pub mod Visible
+pub mod Laws

@@ -1,0 +1,130 @@
+// One line of the day: its step, and its row.
+use super::command;
+use super::command::Command;
+use super::input::Input;
+use super::row;
+use digest::check_number;
+use layout::Geometry;
+use runs::lesser;
+use store::Step;
+use store::Store;
+
+// The store so far, and the number of the last line.
+pub(crate) struct Day {
+    pub store: Store,
+    pub row: u64,
+}
+
+// The number after this one; the largest stays.
+fn after(row: u64) -> u64 {
+    if row == u64::MAX {
+        return row;
+    }
+    row + 1
+}
+
+fn at_row(store: Store, row: u64) -> Day {
+    Day { store, row }
+}
+
+// What a line says; one that is too long says nothing.
+fn command_of(line: &[u8], i: Input, brought: &mut [u8], sizes: &mut [u16]) -> Command {
+    if i.long {
+        return Command::Not;
+    }
+    let n = lesser(i.len, line.len());
+    command::parse(&line[0..n], brought, sizes)
+}
+
+// The step with the entries that it brings, and its row.
+fn step(
+    s: Store,
+    g: Geometry,
+    n: u64,
+    x: Step,
+    brought: &[u8],
+    sizes: &[u16],
+    bytes: &mut [u8],
+    lens: &mut [u16],
+    pieces: &mut [u8],
+    rbytes: &mut [u8],
+    rlens: &mut [u16],
+    blocks: &mut [u8],
+    marks: &mut [u8],
+) -> Store {
+    let none = [0u8; 1];
+    let r = s.step(
+        g,
+        x,
+        brought,
+        sizes,
+        &none,
+        &none,
+        bytes,
+        lens,
+        pieces,
+        rbytes,
+        rlens,
+        blocks,
+        marks,
+    );
+    let next = r.store;
+    let a = r.answer;
+    let m = next.machine;
+    let d = next.disk;
+    let slots = d.slots;
+    let h = check_number(
+        slots,
+        m,
+        g,
+        bytes,
+        lens,
+        pieces,
+        rbytes,
+        rlens,
+        blocks,
+        marks,
+    );
+    row::print(n, a, m, h);
+    next
+}
+
+pub(crate) fn turn(
+    d: Day,
+    g: Geometry,
+    line: &[u8],
+    i: Input,
+    bytes: &mut [u8],
+    lens: &mut [u16],
+    pieces: &mut [u8],
+    rbytes: &mut [u8],
+    rlens: &mut [u16],
+    blocks: &mut [u8],
+    marks: &mut [u8],
+) -> Day {
+    let s = d.store;
+    let n = after(d.row);
+    let mut brought = [0u8; 8192];
+    let mut sizes = [0u16; 8192];
+    let c = command_of(line, i, &mut brought, &mut sizes);
+    let Command::Is(x) = c else {
+        row::not_a_step(n);
+        return at_row(s, n);
+    };
+    let next = step(
+        s,
+        g,
+        n,
+        x,
+        &brought,
+        &sizes,
+        bytes,
+        lens,
+        pieces,
+        rbytes,
+        rlens,
+        blocks,
+        marks,
+    );
+    at_row(next, n)
+}

@@ -1,0 +1,137 @@
+// A day of the store, traced: the first line of input is a disk, each other line a step, and a row of output says what it came to. A line
+// that isn't a step says so with its number, alters nothing, and the day goes on. Only the line and the next chunk of input are held.
+mod brought;
+mod command;
+mod day;
+mod first;
+mod input;
+mod numbers;
+mod row;
+
+use day::Day;
+use first::First;
+use input::Input;
+use layout::Geometry;
+use runs::lesser;
+use store::Store;
+
+// Each turn takes one line; the turns are counted down from a number that no day uses up.
+fn run(
+    s: Store,
+    g: Geometry,
+    from: Input,
+    chunk: &mut [u8],
+    line: &mut [u8],
+    bytes: &mut [u8],
+    lens: &mut [u16],
+    pieces: &mut [u8],
+    rbytes: &mut [u8],
+    rlens: &mut [u16],
+    blocks: &mut [u8],
+    marks: &mut [u8],
+) {
+    let mut d = Day { store: s, row: 0 };
+    let mut i = from;
+    let mut turns = u64::MAX;
+    while 0 < turns {
+        turns -= 1;
+        i = input::read_line(i, chunk, line);
+        if !i.whole {
+            return;
+        }
+        d = day::turn(
+            d,
+            g,
+            line,
+            i,
+            bytes,
+            lens,
+            pieces,
+            rbytes,
+            rlens,
+            blocks,
+            marks,
+        );
+    }
+}
+
+// The first line as a disk.
+fn first_disk(line: &[u8], i: Input) -> First {
+    let n = lesser(i.len, line.len());
+    first::parse(&line[0..n])
+}
+
+// The store's memory is made for 32 blocks; what N blocks take of it is lent.
+fn play(
+    s: Store,
+    g: Geometry,
+    i: Input,
+    chunk: &mut [u8],
+    line: &mut [u8],
+    bytes: &mut [u8],
+    lens: &mut [u16],
+    pieces: &mut [u8],
+    rbytes: &mut [u8],
+    rlens: &mut [u16],
+    blocks: &mut [u8],
+    marks: &mut [u8],
+) {
+    let n = lesser(g.blocks as usize, 32);
+    let size = n * 4096;
+    let a = lesser(size, pieces.len());
+    let b = lesser(size, rbytes.len());
+    let c = lesser(size, rlens.len());
+    let d = lesser(size, blocks.len());
+    let e = lesser(n, marks.len());
+    run(
+        s,
+        g,
+        i,
+        chunk,
+        line,
+        bytes,
+        lens,
+        &mut pieces[0..a],
+        &mut rbytes[0..b],
+        &mut rlens[0..c],
+        &mut blocks[0..d],
+        &mut marks[0..e],
+    );
+}
+
+fn main() {
+    let mut chunk = io::large_buffer();
+    let mut line = [0u8; 16384];
+    let mut bytes = [0u8; 65536];
+    let mut lens = [0u16; 1024];
+    let mut pieces = [0u8; 131072];
+    let mut rbytes = [0u8; 131072];
+    let mut rlens = [0u16; 131072];
+    let mut blocks = [0u8; 131072];
+    let mut marks = [0u8; 32];
+    let begun = input::begin();
+    let i = input::read_line(begun, &mut chunk, &mut line);
+    let f = first_disk(&line, i);
+    if !f.ok {
+        row::not_a_disk();
+        return;
+    }
+    row::header();
+    let g = f.geometry;
+    let slots = f.slots;
+    let s = Store::initial(slots);
+    play(
+        s,
+        g,
+        i,
+        &mut chunk,
+        &mut line,
+        &mut bytes,
+        &mut lens,
+        &mut pieces,
+        &mut rbytes,
+        &mut rlens,
+        &mut blocks,
+        &mut marks,
+    );
+}
