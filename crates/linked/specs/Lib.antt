@@ -1,0 +1,5 @@
+pub mod Numbers
+pub mod Answer
+pub mod State
+pub mod Steps
+pub mod Laws
