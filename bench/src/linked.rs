@@ -1,0 +1,308 @@
+//! The proved functions, declared as the static library has them, and each behind a safe one. Nothing checks these declarations against
+//! the Rattle source, so they stand in one place: a slice is a pointer and a length, `&mut u64` a pointer.
+extern "C" {
+    fn wokujani_write_range(
+        bytes: *const u8,
+        bytes_len: usize,
+        lens: *const u16,
+        lens_len: usize,
+        n: u64,
+        journal: *mut u8,
+        journal_len: usize,
+        start: u64,
+        taken: *mut u64,
+    ) -> u8;
+    fn wokujani_list_entries(
+        s: *const u8,
+        s_len: usize,
+        starts: *mut u64,
+        starts_len: usize,
+        found: *mut u64,
+    ) -> u8;
+    fn wokujani_scan(s: *const u8, s_len: usize, found: *mut u64, size: *mut u64) -> u8;
+    fn wokujani_unpack(
+        s: *const u8,
+        s_len: usize,
+        bytes: *mut u8,
+        bytes_len: usize,
+        lens: *mut u16,
+        lens_len: usize,
+        found: *mut u64,
+        size: *mut u64,
+    ) -> u8;
+    fn wokujani_ask_journal(
+        n: u64,
+        t: u64,
+        journal: *const u8,
+        journal_len: usize,
+        marks: *const u8,
+        marks_len: usize,
+    ) -> u8;
+    fn wokujani_count_pending(
+        bytes: *const u8,
+        bytes_len: usize,
+        lens: *const u16,
+        lens_len: usize,
+        n: u64,
+        frozen: u64,
+        first: *mut u64,
+        size: *mut u64,
+    ) -> u8;
+    fn wokujani_count_left(
+        blocks: u64,
+        rbytes: *const u8,
+        rbytes_len: usize,
+        rlens: *const u16,
+        rlens_len: usize,
+        n: u64,
+        entries: u64,
+        bytes: u64,
+        found: *mut u64,
+        size: *mut u64,
+    ) -> u8;
+    fn wokujani_add(
+        state: *mut u64,
+        state_len: usize,
+        brought: *const u8,
+        brought_len: usize,
+        sizes: *const u16,
+        sizes_len: usize,
+        k: u64,
+        bytes: *mut u8,
+        bytes_len: usize,
+        lens: *mut u16,
+        lens_len: usize,
+        pieces: *const u8,
+        pieces_len: usize,
+        rbytes: *const u8,
+        rbytes_len: usize,
+        rlens: *const u16,
+        rlens_len: usize,
+    ) -> u8;
+    fn wokujani_replay(
+        state: *mut u64,
+        state_len: usize,
+        brought: *const u8,
+        brought_len: usize,
+        sizes: *const u16,
+        sizes_len: usize,
+        k: u64,
+        bytes: *const u8,
+        bytes_len: usize,
+        lens: *const u16,
+        lens_len: usize,
+        pieces: *const u8,
+        pieces_len: usize,
+        rbytes: *const u8,
+        rbytes_len: usize,
+        rlens: *const u16,
+        rlens_len: usize,
+    ) -> u8;
+    fn wokujani_write_journal(
+        state: *mut u64,
+        state_len: usize,
+        id1: u64,
+        two: bool,
+        id2: u64,
+        out: *mut u8,
+        out_len: usize,
+        bytes: *mut u8,
+        bytes_len: usize,
+        lens: *mut u16,
+        lens_len: usize,
+        pieces: *const u8,
+        pieces_len: usize,
+        rbytes: *const u8,
+        rbytes_len: usize,
+        rlens: *const u16,
+        rlens_len: usize,
+    ) -> u8;
+}
+
+/// A value, or the number of the question that was answered no.
+pub type Answer<T> = Result<T, u8>;
+
+/// The memory that a store lends its machine.
+pub struct Lent {
+    pub bytes: Vec<u8>,
+    pub lens: Vec<u16>,
+    pub pieces: Vec<u8>,
+    pub rbytes: Vec<u8>,
+    pub rlens: Vec<u16>,
+}
+
+fn answer<T>(refusal: u8, value: T) -> Answer<T> {
+    if refusal == 0 {
+        Ok(value)
+    } else {
+        Err(refusal)
+    }
+}
+
+// Each call below passes pointers and lengths of live slices, shared or exclusive as the declaration says; the functions are total.
+
+pub fn write_range(bytes: &[u8], lens: &[u16], n: u64, journal: &mut [u8], start: u64) -> Answer<u64> {
+    let mut taken = 0;
+    let q = unsafe {
+        wokujani_write_range(
+            bytes.as_ptr(),
+            bytes.len(),
+            lens.as_ptr(),
+            lens.len(),
+            n,
+            journal.as_mut_ptr(),
+            journal.len(),
+            start,
+            &mut taken,
+        )
+    };
+    answer(q, taken)
+}
+
+pub fn list_entries(s: &[u8], starts: &mut [u64]) -> Answer<u64> {
+    let mut found = 0;
+    let q =
+        unsafe { wokujani_list_entries(s.as_ptr(), s.len(), starts.as_mut_ptr(), starts.len(), &mut found) };
+    answer(q, found)
+}
+
+pub fn scan(s: &[u8]) -> Answer<(u64, u64)> {
+    let (mut found, mut size) = (0, 0);
+    let q = unsafe { wokujani_scan(s.as_ptr(), s.len(), &mut found, &mut size) };
+    answer(q, (found, size))
+}
+
+pub fn unpack(s: &[u8], bytes: &mut [u8], lens: &mut [u16]) -> Answer<(u64, u64)> {
+    let (mut found, mut size) = (0, 0);
+    let q = unsafe {
+        wokujani_unpack(
+            s.as_ptr(),
+            s.len(),
+            bytes.as_mut_ptr(),
+            bytes.len(),
+            lens.as_mut_ptr(),
+            lens.len(),
+            &mut found,
+            &mut size,
+        )
+    };
+    answer(q, (found, size))
+}
+
+pub fn ask_journal(n: u64, t: u64, journal: &[u8], marks: &[u8]) -> u8 {
+    unsafe { wokujani_ask_journal(n, t, journal.as_ptr(), journal.len(), marks.as_ptr(), marks.len()) }
+}
+
+pub fn count_pending(bytes: &[u8], lens: &[u16], n: u64, frozen: u64) -> Answer<(u64, u64)> {
+    let (mut first, mut size) = (0, 0);
+    let q = unsafe {
+        wokujani_count_pending(
+            bytes.as_ptr(),
+            bytes.len(),
+            lens.as_ptr(),
+            lens.len(),
+            n,
+            frozen,
+            &mut first,
+            &mut size,
+        )
+    };
+    answer(q, (first, size))
+}
+
+pub fn count_left(
+    blocks: u64,
+    rbytes: &[u8],
+    rlens: &[u16],
+    n: u64,
+    taken: (u64, u64),
+) -> Answer<(u64, u64)> {
+    let (mut found, mut size) = (0, 0);
+    let q = unsafe {
+        wokujani_count_left(
+            blocks,
+            rbytes.as_ptr(),
+            rbytes.len(),
+            rlens.as_ptr(),
+            rlens.len(),
+            n,
+            taken.0,
+            taken.1,
+            &mut found,
+            &mut size,
+        )
+    };
+    answer(q, (found, size))
+}
+
+pub fn add(state: &mut [u64], brought: &[u8], sizes: &[u16], k: u64, l: &mut Lent) -> u8 {
+    unsafe {
+        wokujani_add(
+            state.as_mut_ptr(),
+            state.len(),
+            brought.as_ptr(),
+            brought.len(),
+            sizes.as_ptr(),
+            sizes.len(),
+            k,
+            l.bytes.as_mut_ptr(),
+            l.bytes.len(),
+            l.lens.as_mut_ptr(),
+            l.lens.len(),
+            l.pieces.as_ptr(),
+            l.pieces.len(),
+            l.rbytes.as_ptr(),
+            l.rbytes.len(),
+            l.rlens.as_ptr(),
+            l.rlens.len(),
+        )
+    }
+}
+
+pub fn replay(state: &mut [u64], brought: &[u8], sizes: &[u16], k: u64, l: &Lent) -> u8 {
+    unsafe {
+        wokujani_replay(
+            state.as_mut_ptr(),
+            state.len(),
+            brought.as_ptr(),
+            brought.len(),
+            sizes.as_ptr(),
+            sizes.len(),
+            k,
+            l.bytes.as_ptr(),
+            l.bytes.len(),
+            l.lens.as_ptr(),
+            l.lens.len(),
+            l.pieces.as_ptr(),
+            l.pieces.len(),
+            l.rbytes.as_ptr(),
+            l.rbytes.len(),
+            l.rlens.as_ptr(),
+            l.rlens.len(),
+        )
+    }
+}
+
+pub fn write_journal(state: &mut [u64], id1: u64, id2: Option<u64>, out: &mut [u8], l: &mut Lent) -> u8 {
+    unsafe {
+        wokujani_write_journal(
+            state.as_mut_ptr(),
+            state.len(),
+            id1,
+            id2.is_some(),
+            id2.unwrap_or(0),
+            out.as_mut_ptr(),
+            out.len(),
+            l.bytes.as_mut_ptr(),
+            l.bytes.len(),
+            l.lens.as_mut_ptr(),
+            l.lens.len(),
+            l.pieces.as_ptr(),
+            l.pieces.len(),
+            l.rbytes.as_ptr(),
+            l.rbytes.len(),
+            l.rlens.as_ptr(),
+            l.rlens.len(),
+        )
+    }
+}

@@ -1,0 +1,36 @@
+//! bench              every piece of work, timed, as a table
+//! bench once NAME SIDE COUNT   one piece of work so often, by `ours` or `plain`: for an instruction counter
+mod callgrind;
+mod day;
+mod linked;
+mod plain;
+mod table;
+mod works;
+
+fn once(name: &str, side: &str, count: u64) {
+    let (_, make) = works::all().into_iter().find(|w| w.0 == name).expect("a work's name");
+    let mut work = make();
+    for _ in 0..count {
+        match side {
+            "ours" => (work.ours)(),
+            _ => (work.plain)(),
+        }
+    }
+}
+
+fn main() {
+    let args: Vec<String> = std::env::args().skip(1).collect();
+    let args: Vec<&str> = args.iter().map(String::as_str).collect();
+    match args[..] {
+        ["once", name, side, count] => once(name, side, count.parse().expect("a count")),
+        [] => {
+            table::head();
+            for (name, make) in works::all() {
+                table::row(name, make());
+            }
+            table::whole_replay();
+            day::row();
+        }
+        _ => eprintln!("usage: bench, or bench once NAME ours|plain COUNT"),
+    }
+}

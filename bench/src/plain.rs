@@ -1,0 +1,298 @@
+//! The same work as a Rust programmer would write it: iterators, `copy_from_slice`, slices of slices. The same answers on the same input.
+use crate::linked::{Answer, Lent};
+
+pub const BLOCK: usize = 4096;
+const HEAD: usize = 4;
+const MOST_ENTRIES: usize = 1024;
+const MOST_BYTES: usize = 65536;
+
+fn blocks_of(entries: usize, bytes: usize) -> usize {
+    (HEAD + entries + bytes).div_ceil(BLOCK)
+}
+
+/// The bytes of entries whose lengths are lawful and fit.
+fn held(lens: &[u16], room: usize) -> Option<usize> {
+    if !lens.iter().all(|l| (1..=255).contains(l)) {
+        return None;
+    }
+    let sum: usize = lens.iter().map(|&l| usize::from(l)).sum();
+    (sum <= room).then_some(sum)
+}
+
+fn copy_around(ring: &mut [u8], at: usize, src: &[u8]) {
+    let at = at % ring.len();
+    let (first, rest) = src.split_at(src.len().min(ring.len() - at));
+    ring[at..at + first.len()].copy_from_slice(first);
+    ring[..rest.len()].copy_from_slice(rest);
+}
+
+fn fill_around(ring: &mut [u8], at: usize, count: usize) {
+    let at = at % ring.len();
+    let first = count.min(ring.len() - at);
+    ring[at..at + first].fill(0);
+    ring[..count - first].fill(0);
+}
+
+fn put(bytes: &[u8], lens: &[u16], ring: &mut [u8], at: usize) {
+    let blocks = blocks_of(lens.len(), bytes.len());
+    ring[at..at + 2].copy_from_slice(&(blocks as u16).to_le_bytes());
+    ring[at + 2..at + HEAD].copy_from_slice(&(lens.len() as u16).to_le_bytes());
+    for (to, &l) in ring[at + HEAD..].iter_mut().zip(lens) {
+        *to = l as u8;
+    }
+    let used = HEAD + lens.len() + bytes.len();
+    copy_around(ring, at + HEAD + lens.len(), bytes);
+    fill_around(ring, at + used, blocks * BLOCK - used);
+}
+
+pub fn write_range(bytes: &[u8], lens: &[u16], n: usize, journal: &mut [u8], start: usize) -> Answer<u64> {
+    let all = journal.len() / BLOCK;
+    if journal.len() % BLOCK != 0 || !(1..=4096).contains(&all) {
+        return Err(1);
+    }
+    if start >= all || !(1..=MOST_ENTRIES).contains(&n) {
+        return Err(4);
+    }
+    let lens = lens.get(..n).ok_or(4)?;
+    let bodies = held(lens, bytes.len()).ok_or(4)?;
+    let blocks = blocks_of(n, bodies);
+    if blocks > all {
+        return Err(8);
+    }
+    put(&bytes[..bodies], lens, journal, start * BLOCK);
+    Ok(blocks as u64)
+}
+
+/// A range in front of some bytes: its lengths and its bodies.
+struct Range<'a> {
+    lens: &'a [u8],
+    bodies: &'a [u8],
+    blocks: usize,
+}
+
+fn range_in_front(s: &[u8]) -> Option<Range<'_>> {
+    let blocks = usize::from(u16::from_le_bytes([*s.first()?, *s.get(1)?]));
+    let entries = usize::from(u16::from_le_bytes([*s.get(2)?, *s.get(3)?]));
+    let lens = s.get(HEAD..HEAD + entries)?;
+    let bytes: usize = lens.iter().map(|&l| usize::from(l)).sum();
+    let range = s.get(..blocks * BLOCK)?;
+    if !(1..=MOST_ENTRIES).contains(&entries) || blocks != blocks_of(entries, bytes) {
+        return None;
+    }
+    let (bodies, padding) = range[HEAD + entries..].split_at(bytes);
+    let whole = lens.iter().all(|&l| l != 0) && padding.iter().all(|&b| b == 0);
+    whole.then_some(Range { lens, bodies, blocks })
+}
+
+pub fn list_entries(s: &[u8], starts: &mut [u64]) -> Answer<u64> {
+    if starts.len() != MOST_ENTRIES {
+        return Err(1);
+    }
+    let range = range_in_front(s).filter(|r| r.blocks * BLOCK == s.len()).ok_or(7)?;
+    let mut at = (HEAD + range.lens.len()) as u64;
+    for (start, &l) in starts.iter_mut().zip(range.lens) {
+        *start = at;
+        at += u64::from(l);
+    }
+    Ok(range.lens.len() as u64)
+}
+
+pub fn scan(s: &[u8]) -> Answer<(u64, u64)> {
+    let (mut rest, mut entries, mut bytes) = (s, 0, 0);
+    while !rest.is_empty() {
+        let range = range_in_front(rest).ok_or(7)?;
+        entries += range.lens.len();
+        bytes += range.bodies.len();
+        rest = &rest[range.blocks * BLOCK..];
+    }
+    Ok((entries as u64, bytes as u64))
+}
+
+pub fn unpack(s: &[u8], bytes: &mut [u8], lens: &mut [u16]) -> Answer<(u64, u64)> {
+    if bytes.len() < s.len() || lens.len() < s.len() {
+        return Err(1);
+    }
+    let total = scan(s)?;
+    let (mut rest, mut at, mut n) = (s, 0, 0);
+    while let Some(range) = range_in_front(rest) {
+        bytes[at..at + range.bodies.len()].copy_from_slice(range.bodies);
+        for (to, &l) in lens[n..].iter_mut().zip(range.lens) {
+            *to = u16::from(l);
+        }
+        at += range.bodies.len();
+        n += range.lens.len();
+        rest = &rest[range.blocks * BLOCK..];
+    }
+    Ok(total)
+}
+
+pub fn ask_journal(n: usize, t: usize, journal: &[u8], marks: &[u8]) -> u8 {
+    let ok = (1..=4096).contains(&n)
+        && (1..=16_777_216).contains(&t)
+        && journal.len() == n * BLOCK
+        && marks.len() == n
+        && marks.iter().all(|&m| m <= 1);
+    u8::from(!ok)
+}
+
+pub fn count_pending(bytes: &[u8], lens: &[u16], n: usize, frozen: usize) -> Answer<(u64, u64)> {
+    if bytes.len() != MOST_BYTES || lens.len() != MOST_ENTRIES {
+        return Err(1);
+    }
+    if frozen > n {
+        return Err(2);
+    }
+    let (front, back) = lens.get(..n).ok_or(2)?.split_at(frozen);
+    let first = held(front, MOST_BYTES).ok_or(2)?;
+    let others = held(back, MOST_BYTES - first).ok_or(2)?;
+    Ok((first as u64, (first + others) as u64))
+}
+
+pub fn count_left(
+    n: usize,
+    rbytes: &[u8],
+    rlens: &[u16],
+    entries: usize,
+    taken: (usize, usize),
+) -> Answer<(u64, u64)> {
+    if !(1..=4096).contains(&n) || rbytes.len() != n * BLOCK || rlens.len() != n * BLOCK {
+        return Err(1);
+    }
+    let room = rbytes.len().checked_sub(taken.1).ok_or(2)?;
+    let left = rlens.get(taken.0..entries).ok_or(2)?;
+    let bytes = held(left, room).ok_or(2)?;
+    Ok((left.len() as u64, bytes as u64))
+}
+
+/// A machine at work that awaits nothing: the same numbers as a caller of the library keeps.
+#[derive(Clone, Debug, PartialEq)]
+pub struct Machine {
+    pub n: usize,
+    pub t: usize,
+    pub start: usize,
+    pub len: usize,
+    pub table: (usize, usize),
+    pub which: usize,
+    pub written: usize,
+    pub frozen: Option<usize>,
+    pub pending: usize,
+    pub frozen_entries: usize,
+    pub replay: usize,
+    pub taken: (usize, usize),
+}
+
+impl Machine {
+    /// Question 2 of the record.
+    fn ok(&self) -> bool {
+        let first = (2 + self.n) * BLOCK;
+        let at = self.frozen.unwrap_or(0);
+        let table =
+            (self.table.0 == first || self.table.0 == first + self.t) && (1..=self.t).contains(&self.table.1);
+        let extent =
+            self.start < self.n && self.len <= self.written && self.written <= self.n && self.which <= 1;
+        let none = self.frozen_entries == 0 || self.frozen == Some(self.written);
+        table
+            && extent
+            && none
+            && at <= self.written
+            && self.frozen_entries <= self.pending
+            && self.taken.0 <= self.replay
+    }
+
+    /// Questions 1 and 2, and the bytes of the frozen and of all pending entries.
+    fn ask(&self, l: &Lent) -> Answer<(u64, u64)> {
+        let in_bounds = (1..=4096).contains(&self.n) && (1..=16_777_216).contains(&self.t);
+        let lent = l.pieces.len() == self.n * BLOCK
+            && l.rbytes.len() == l.pieces.len()
+            && l.rlens.len() == l.rbytes.len();
+        if !in_bounds || !lent || l.bytes.len() != MOST_BYTES || l.lens.len() != MOST_ENTRIES {
+            return Err(1);
+        }
+        if !self.ok() {
+            return Err(2);
+        }
+        let found = count_pending(&l.bytes, &l.lens, self.pending, self.frozen_entries)?;
+        count_left(self.n, &l.rbytes, &l.rlens, self.replay, self.taken)?;
+        Ok(found)
+    }
+
+    pub fn add(&mut self, brought: &[u8], sizes: &[u16], l: &mut Lent) -> Answer<()> {
+        let (_, pending) = self.ask(l)?;
+        let new = if sizes.len() <= 16 { held(sizes, brought.len()).ok_or(4)? } else { return Err(4) };
+        if self.taken.0 < self.replay {
+            return Err(6);
+        }
+        let at = pending as usize;
+        if self.pending + sizes.len() > MOST_ENTRIES || at + new > MOST_BYTES {
+            return Err(8);
+        }
+        l.bytes[at..at + new].copy_from_slice(&brought[..new]);
+        l.lens[self.pending..self.pending + sizes.len()].copy_from_slice(sizes);
+        self.pending += sizes.len();
+        Ok(())
+    }
+
+    pub fn replay(&mut self, brought: &[u8], sizes: &[u16], l: &Lent) -> Answer<()> {
+        self.ask(l)?;
+        let new = if sizes.len() <= 16 { held(sizes, brought.len()).ok_or(4)? } else { return Err(4) };
+        let (n, at) = self.taken;
+        let next = self.replay - n >= sizes.len()
+            && l.rlens[n..n + sizes.len()] == *sizes
+            && l.rbytes[at..at + new] == brought[..new];
+        if !next {
+            return Err(6);
+        }
+        self.taken = (n + sizes.len(), at + new);
+        Ok(())
+    }
+
+    pub fn write_journal(&mut self, out: &mut [u8], l: &mut Lent) -> Answer<()> {
+        if out.len() != self.n * BLOCK {
+            return Err(1);
+        }
+        let (first, all) = self.ask(l)?;
+        let (entries, bytes) = if self.frozen_entries == 0 {
+            (self.pending, all as usize)
+        } else {
+            (self.frozen_entries, first as usize)
+        };
+        if entries == 0 {
+            return Err(6);
+        }
+        let blocks = blocks_of(entries, bytes);
+        if self.written + blocks > self.n {
+            return Err(8);
+        }
+        put(&l.bytes[..bytes], &l.lens[..entries], out, 0);
+        l.bytes.copy_within(bytes..all as usize, 0);
+        l.lens.copy_within(entries..self.pending, 0);
+        self.written += blocks;
+        self.frozen = self.frozen.map(|at| if self.frozen_entries == 0 { at } else { self.written });
+        self.pending -= entries;
+        self.frozen_entries = 0;
+        Ok(())
+    }
+
+    /// The 16 numbers.
+    pub fn numbers(&self, counter: u64) -> [u64; 16] {
+        let m = |x: usize| x as u64;
+        [
+            m(self.n),
+            m(self.t),
+            counter,
+            m(self.start),
+            m(self.len),
+            m(self.table.0),
+            m(self.table.1),
+            m(self.which),
+            m(self.written),
+            u64::from(self.frozen.is_some()),
+            m(self.frozen.unwrap_or(0)),
+            m(self.pending),
+            m(self.frozen_entries),
+            m(self.replay),
+            m(self.taken.0),
+            m(self.taken.1),
+        ]
+    }
+}
