@@ -11,9 +11,9 @@ use lib.Dec.{eqb}
 use borrow.Author.Tests.{eq-eqb, ne-eqb}
 use Rattle.laws.specs.Choice.{ask, andThen, unless, unless-kept, unless-done}
 use Rattle.laws.specs.Splice.{splice, copy-turn}
-use Rattle.laws.specs.Fold.{sum}
-use Rattle.range.specs.Form.{MostEntries, HeadSize, entryCount, lengthsAt, entriesAt, entries, parses}
-use Rattle.range.specs.Shape.{length-lengthsAt, entry-part}
+use Rattle.laws.specs.Fold.{sum, sum-take-step}
+use Rattle.range.specs.Form.{MostEntries, MostEntryLength, LengthWidth, HeadSize, entryCount, lengthsAt, entriesAt, entries, parses}
+use Rattle.range.specs.Shape.{Shape, length-lengthsAt, lengthsAt-one-at, entry-part}
 use Rattle.reader.specs.declared.answer.Counted.{Counted}
 use Rattle.reader.specs.declared.answer.Counted.the-variants as count
 use Rattle.reader.specs.Answer.{counted, counted-entries, counted-refused}
@@ -66,6 +66,17 @@ module _ (w : ℕ) (xs : List ℕ) where
 
   pub list-end : (x d : List ℕ) (j : ℕ) → x ≡ splice d 0 (take j (bodyStarts w xs)) → entryCount xs ≤ j → x ≡ splice d 0 (bodyStarts w xs)
   list-end x d j e h = e ∙ ap (splice d 0) (take-all j (bodyStarts w xs) (rw length-bodyStarts h))
+
+-- the first start, and the next one, in a reader's own sum
+module _ (xs : List ℕ) where
+  pub first-start : (n : ℕ) → n ≡ entryCount xs → HeadSize + n ≡ bodyStart LengthWidth xs 0
+  unfolding bodyStart sum
+  first-start n e = let none : sum (take 0 (lengthsAt LengthWidth xs)) ≡ 0 = refl in omega (arith, e, none)
+
+  pub next-start : (i a b : ℕ) → Shape LengthWidth MostEntryLength xs → i < entryCount xs → a ≡ bodyStart LengthWidth xs i → b ≡ a + getD xs (HeadSize + i) 0 → b ≡ bodyStart LengthWidth xs (i + 1)
+  unfolding bodyStart
+  next-start i a b s h p q =
+      omega (arith, p, q, sum-take-step (lengthsAt LengthWidth xs) i (omega (arith, h, length-lengthsAt LengthWidth xs)), lengthsAt-one-at xs i (omega arith) h)
 
 -- the ways out: the lent places, the range, the listing
 module _ (xs starts : List ℕ) where

@@ -15,7 +15,7 @@ ghost use Rattle.range.specs.Shape.{Shape};
 ghost use Rattle.reader.specs.Entry.{askEntry, bodyStart};
 
 // Where body i of a range begins: behind the lengths and the bodies before it.
-pub(crate) fn body_start(s: &[u8], i: usize) -> usize
+fn body_start(s: &[u8], i: usize) -> usize
     requires { ⌜ Shape LengthWidth MostEntryLength (now s) × (i ≤ entryCount (now s)) ⌝ }
     ensures { λ r. ⌜ (r ≡ bodyStart LengthWidth (now (s .entry)) i) × (r ≤ length (now (s .entry))) ⌝ }
 {
@@ -26,7 +26,7 @@ pub(crate) fn body_start(s: &[u8], i: usize) -> usize
 }
 
 // Where a body of the given length ends: a place of a slice has 63 bits.
-fn body_end(start: usize, length: u8) -> usize
+pub(crate) fn body_end(start: usize, length: u8) -> usize
     requires { ⌜ start < 9223372036854775808 ⌝ }
     ensures { λ r. ⌜ r ≡ start + length ⌝ }
 {

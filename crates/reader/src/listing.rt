@@ -1,7 +1,8 @@
 // A listing of a range: where each body begins.
 use super::answer::Counted;
-use super::body::body_start;
+use super::body::body_end;
 use super::parse::count;
+use range::HEAD_SIZE;
 use range::MOST_ENTRIES;
 ghost use mathlib.Core.Path.{_≡_};
 ghost use Prim.Native.Nat.{_≤_};
@@ -18,10 +19,12 @@ fn list_bodies(s: &[u8], n: usize, starts: &mut [u64])
     requires { ⌜ Shape LengthWidth MostEntryLength (now s) × (n ≡ entryCount (now s)) × (MostEntries ≤ length (now starts)) ⌝ }
     ensures { λ _. ⌜ now (starts .exit) ≡ splice (now (starts .entry)) 0 (bodyStarts LengthWidth (now (s .entry))) ⌝ }
 {
+    let mut at = HEAD_SIZE + n;
     let mut i = 0;
     while i < n {
-        let start = body_start(s, i);
-        starts[i] = start as u64;
+        starts[i] = at as u64;
+        let length = s[HEAD_SIZE + i];
+        at = body_end(at, length);
         i += 1;
     }
 }
