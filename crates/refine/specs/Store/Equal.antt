@@ -21,10 +21,10 @@ use Rattle.source.specs.JournalCache as M
 use Rattle.source.specs.JournalCache.{ReadyVariables, SyncReqStatus}
 use Rattle.refine.specs.Machine.ReadyView.{ReadyLent, locationOf, slotOf, writeOf, statusOf, newOf, frozenOf, memoryOf, replayOf, readyOf}
 
--- the machines' records with their memories and sync requests; `whichSuperblock` is the slot that it names, 1 the second
+-- the machines' records with their memories and sync requests
 pub record SameReady (l : ReadyLent) (y : Map SyncReqStatus) (r : Ready) (k : ReadyLent) (x : Map SyncReqStatus) (q : Ready) : Type 0 where
   pub superblock : r .superblock ≡ q .superblock
-  pub whichSuperblock : slotOf (r .whichSuperblock) ≡ slotOf (q .whichSuperblock)
+  pub whichSuperblock : r .whichSuperblock ≡ q .whichSuperblock
   pub writtenJournalLen : r .writtenJournalLen ≡ q .writtenJournalLen
   pub frozen : r .frozen ≡ q .frozen
   pub commit : r .commit ≡ q .commit
@@ -54,7 +54,7 @@ same-commit (commit.CommitAdvanceLocation id new) (commit.CommitAdvanceLocation 
     λ j. commit.CommitAdvanceLocation (Option·some-injective id i w j) (Option·some-injective new m n j)
 
 -- of numbers that question 2 lets through the slot is the number
-pub same-slot : (a b : ℕ) → a ≤ 1 → b ≤ 1 → slotOf a ≡ slotOf b → a ≡ b
+same-slot : (a b : ℕ) → a ≤ 1 → b ≤ 1 → slotOf a ≡ slotOf b → a ≡ b
 same-slot a b ha hb e =
     split-eq a 1
     (λ h. h ∙ sym (eqb-true b 1 (sym e ∙ eq-eqb a 1 h)))
@@ -75,18 +75,18 @@ module _ (l : ReadyLent) (y : Map SyncReqStatus) (r : Ready) (k : ReadyLent) (x 
         writtenJournalLen = s .writtenJournalLen i;
         replayJournal = s .replayJournal i;
         superblock = s .superblock i;
-        whichSuperblock = s .whichSuperblock i;
+        whichSuperblock = slotOf (s .whichSuperblock i);
         commitStatus = statusOf (s .commit i);
         newSuperblock = newOf (s .commit i);
         syncReqs = s .syncReqs i;
       }
 
-  pub seen-same : readyOf l y r ≡ readyOf k x q → SameReady l y r k x q
-  seen-same e =
+  pub seen-same : r .whichSuperblock ≤ 1 → q .whichSuperblock ≤ 1 → readyOf l y r ≡ readyOf k x q → SameReady l y r k x q
+  seen-same a b e =
       let loc = same-location (r .frozen .frozenLoc) (q .frozen .frozenLoc) (ap (λ (v : ReadyVariables). v .frozenLoc) e) in
       record {
         superblock = ap (λ (v : ReadyVariables). v .superblock) e;
-        whichSuperblock = ap (λ (v : ReadyVariables). v .whichSuperblock) e;
+        whichSuperblock = same-slot (r .whichSuperblock) (q .whichSuperblock) a b (ap (λ (v : ReadyVariables). v .whichSuperblock) e);
         writtenJournalLen = ap (λ (v : ReadyVariables). v .writtenJournalLen) e;
         frozen = λ i. record { isFrozen = e i .isFrozen; frozenJournalPosition = e i .frozenJournalPosition; frozenLoc = loc i };
         commit =

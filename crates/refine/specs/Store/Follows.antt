@@ -32,7 +32,7 @@ use Rattle.refine.specs.Store.Seen.{callOf}
 use Rattle.refine.specs.Store.Plain.{entries-is}
 use Rattle.refine.specs.Store.Sound.{store-takes, store-refused}
 use Rattle.refine.specs.Store.History.{State, Made, Promise, isTaken, stateSeen, codeStore}
-use Rattle.refine.specs.Store.Done.{StoreForm, form-asks, Done}
+use Rattle.refine.specs.Store.Done.{StoreForm, Done}
 use Rattle.refine.specs.Store.Doing.{nothing}
 use Rattle.refine.specs.Store.Complete.{store-complete}
 use Rattle.refine.specs.Store.Sized.{sized-step}
@@ -166,7 +166,7 @@ module _ (g : Geometry) where
             };
         heard = called-once _ x (w .0 .event) (d .tied) (w .0 .tied);
         promise = record { store-is = refl; lent-is = refl; taken-is = ap isTaken (sym (d .to .taken)) };
-        form = form-kept g (s .lent) (d .given) (s .store) (d .call) (d .to .op) (s .sized) (form-asks g (s .lent) (s .store) (s .sized) f (h .allowed .meets)) (d .to .taken);
+        form = form-kept g (s .lent) (d .given) (s .store) (d .call) (d .to .op) (s .sized) (d .to .taken);
         ends = d .to .next;
       }
 

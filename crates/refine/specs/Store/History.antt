@@ -4,7 +4,7 @@ use Prim.Native.Nat.{ℕ, _≤_}
 use mathlib.Core.Bool.{Bool, true, false}
 use mathlib.Core.Logic.{_↔_}
 use mathlib.Core.Path.{_≡_, refl, sym, _∙_, ap, subst}
-use mathlib.Core.List.{List, map}
+use mathlib.Core.List.{List, [], _∷_, map}
 use Rattle.laws.specs.Choice.{ruin}
 use Rattle.layout.specs.declared.geometry.Geometry.{Geometry}
 use Rattle.layout.specs.declared.location.Location.{Location}
@@ -15,7 +15,7 @@ use Rattle.source.specs.JournalCache as M
 use Rattle.source.specs.Limits.{limits}
 use Rattle.history.specs.Ledger.{Shown, shown}
 use Rattle.history.specs.Statement as history
-use Rattle.history.specs.Statement.{Takes, LoadedStore, Tells, ledgerOf, shows}
+use Rattle.history.specs.Statement.{Takes, Ran, LoadedStore, Tells, ledgerOf, shows}
 use Rattle.history.specs.Demand.{two-stores}
 use Rattle.machine.specs.declared.machine.Kind.{Kind}
 use Rattle.machine.specs.declared.machine.Kind.the-variants as kind
@@ -28,9 +28,12 @@ use Rattle.store.specs.Lent.{Lent, Given, machineLent}
 use Rattle.store.specs.Step.{stepped, steppedLent}
 use Rattle.refine.specs.Machine.ReadyView.{readyOf, replayOf}
 use Rattle.refine.specs.Machine.MachineView.{readyLent, syncsOf, machineOf}
+use Rattle.refine.specs.Machine.MachineWork.{work-form}
 use Rattle.refine.specs.Store.Seen.{seen, SizedStore, callOf}
 use Rattle.refine.specs.Store.Sound.{store-takes, store-refused}
 use Rattle.refine.specs.Store.Equal.{SameReady, same-seen, seen-same}
+use Rattle.refine.specs.Store.Done.{StoreForm}
+use Rattle.refine.specs.Store.Kept.{form-kept}
 
 -- the store and what is lent to it; that its arrays have their lengths is the type's
 pub record State : Type 0 where
@@ -105,6 +108,35 @@ ready-at kind.Ready a b c r e = (refl, cc)
 pub loaded-ready : (g : Geometry) (s : State) (r : M.ReadyVariables) → stateSeen g s .machine ≡ M.Variables.Ready r → (s .store .machine .kind ≡ kind.Ready) × (readySeen s ≡ r)
 loaded-ready g s r e = ready-at (s .store .machine .kind) _ _ (readySeen s) r e
 
+-- A call that is taken leaves the form that records and lent memory add to the view, and a refused one leaves all; so a loaded store has it, and
+-- `whichSuperblock` is 0 or 1.
+module _ (g : Geometry) where
+  next-formed : (s : State) (x : Made) (t : State) → Promise g s x true t → StoreForm g (t .lent) (t .store)
+  next-formed s x t p =
+      let a = taken-next (stepped g (s .lent) (x .given) (s .store) (x .step) .answer) (p .taken-is) in
+      subst (λ (u : Lent × Store). StoreForm g (u .0) (u .1)) (λ i. (sym (p .lent-is) i, sym (p .store-is) i))
+      (form-kept g (s .lent) (x .given) (s .store) (x .step) (a .0) (s .sized) (a .1))
+
+  same-formed : (s : State) (x : Made) (t : State) → Promise g s x false t → StoreForm g (s .lent) (s .store) → StoreForm g (t .lent) (t .store)
+  same-formed s x t p f =
+      let a = refused-number (stepped g (s .lent) (x .given) (s .store) (x .step) .answer) (p .taken-is) in
+      let k = store-refused g (s .lent) (x .given) (s .store) (x .step) (a .0) (a .1) in
+      subst (λ (u : Lent × Store). StoreForm g (u .0) (u .1)) (λ i. (sym (p .lent-is ∙ k .1) i, sym (p .store-is ∙ k .0) i)) f
+
+  run-formed : (s t : State) (xs : List Made) (bs : List Bool) → StoreForm g (s .lent) (s .store) → Ran (codeStore g) s xs bs t → StoreForm g (t .lent) (t .store)
+  run-formed s t [] [] f h = subst (λ (u : State). StoreForm g (u .lent) (u .store)) (sym h) f
+  run-formed s t [] (b ∷ bs) f h = absurd h
+  run-formed s t (x ∷ xs) [] f h = absurd h
+  run-formed s t (x ∷ xs) (true ∷ bs) f h = run-formed (h .0) t xs bs (next-formed s x (h .0) (h .1)) (h .2)
+  run-formed s t (x ∷ xs) (false ∷ bs) f h = run-formed (h .0) t xs bs (same-formed s x (h .0) (h .1) f) (h .2)
+
+  loaded-which : (first : Y.Variables) (s : State) (calls : List Made) (answers : List Bool) (crashing : Made) (loading : List Made) (loaded : List Bool) (r : M.ReadyVariables)
+      → (h : LoadedStore (codeStore g) first s calls answers crashing loading loaded r) → h .end .store .machine .kind ≡ kind.Ready
+      → h .end .store .machine .ready .whichSuperblock ≤ 1
+  loaded-which first s calls answers crashing loading loaded r h e =
+      work-form g (machineLent (h .end .lent)) (h .end .store .machine) e
+      (run-formed (h .after) (h .end) loading loaded (next-formed (h .before) crashing (h .after) (h .crashed)) (h .load) .machine) .which-in
+
 -- Demand 3. For every geometry, first disk that meets `Init`, and any two lists of calls with their answers, each followed by a crash that is taken
 -- and a load: the machines at Ready, with their replay entries, are equal exactly when the ledgers are, and each shows its own ledger.
 pub record Demand3 (s t : State) (v u : Shown) : Type 0 where
@@ -131,7 +163,9 @@ code-demand-3 g first loc i s calls answers crashing loading loaded r s′ calls
       second-ready = b .0;
       equal = (
         (λ same. t .equal .0 (sym (a .1) ∙ same-seen _ _ _ _ _ _ same ∙ b .1)),
-        (λ ledgers. seen-same _ _ _ _ _ _ (a .1 ∙ t .equal .1 ledgers ∙ sym (b .1))),
+        (λ ledgers.
+            seen-same _ _ _ _ _ _ (loaded-which g first s calls answers crashing loading loaded r h (a .0)) (loaded-which g first s′ calls′ answers′ crashing′ loading′ loaded′ q k (b .0))
+            (a .1 ∙ t .equal .1 ledgers ∙ sym (b .1))),
       );
       first-shows = ap shows (a .1) ∙ t .first-shows;
       second-shows = ap shows (b .1) ∙ t .second-shows;

@@ -186,10 +186,11 @@ module _ (g : Geometry) (l : Lent) (v : Given) (s : Store) (x : Step) (o : DiskO
       (step-formed g l v s z e x o (ap (λ (r : StoreStepped). r .answer) (sym (k .1)) ∙ h))
 
   -- the form is kept
-  pub form-kept : SizedStore s → askStore g l s ≡ 0 → stepped g l v s x .answer ≡ answer.Next o → StoreForm g (steppedLent g l v s x) (stepped g l v s x .store)
-  form-kept z e h =
+  pub form-kept : SizedStore s → stepped g l v s x .answer ≡ answer.Next o → StoreForm g (steppedLent g l v s x) (stepped g l v s x .store)
+  unfolding askStep
+  form-kept z h =
       let n = taken-formed z h in
-      let m = store-met g l s z e in
+      let m = store-met g l s z (andThen-right _ _ (taken-asked h .0)) in
       let a = alike-step g l v s x in
       record {
         machine-lent = machine-lent-kept g l (steppedLent g l v s x) a (m .machine .lent);

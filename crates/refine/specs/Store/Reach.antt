@@ -130,7 +130,7 @@ module _ (g : Geometry) (l : Lent) (v : Given) (s : Store) (x : Step) (o : DiskO
   -- the counts of the next state are within the limits
   pub machine-counts-kept : MachineCounts limits (seen g l′ s′ .machine)
   machine-counts-kept =
-      form-counts g (machineLent l′) (form-kept g l v s x o z e taken .machine-lent) (s′ .machine) (sized-step g l v s z x .machine) (taken-formed g l v s x o z taken .machine)
+      form-counts g (machineLent l′) (form-kept g l v s x o z taken .machine-lent) (s′ .machine) (sized-step g l v s z x .machine) (taken-formed g l v s x o z taken .machine)
 
   pub disk-counts-kept : DiskCounts limits (seen g l′ s′ .disk)
   disk-counts-kept = tabled-counts g (l′ .blocks) (l′ .marks) (s′ .disk) (sized-step g l v s z x .disk) (taken-formed g l v s x o z taken .tables)
@@ -148,7 +148,7 @@ module _ (g : Geometry) (p : ℕ) (l : Lent) (v : Given) (s : Store) (books : Le
   reach-step =
       let e = reached-asks g p l s books r in
       let z = r .sized in
-      let f = form-kept g l v s x o z e taken in
+      let f = form-kept g l v s x o z taken in
       let after : Y.Variables = seen g (steppedLent g l v s x) (stepped g l v s x .store) in
       let h =
       takes-within g (seen g l s) after (f .machine-lent .geometry) (machine-counts-kept g l v s x o taken z e) (disk-counts-kept g l v s x o taken z e)
