@@ -135,15 +135,9 @@ impl Machine {
     {
         let q = ask_which(which);
         if q != 0 {
-            return MachineStepped {
-                answer: MachineAnswer::Refused(q),
-                machine: self,
-            };
+            return self.refused(q);
         }
         let next = self.superblock_answered(id);
-        MachineStepped {
-            answer: MachineAnswer::Next(DiskOp::RespWriteSuperblock { id, which }),
-            machine: next,
-        }
+        next.accepted(DiskOp::RespWriteSuperblock { id, which })
     }
 }

@@ -1,6 +1,5 @@
 // Freeze and ReceiveFrozenLoc, after questions 1 and 2; neither is a step by itself.
 use super::machine::Machine;
-use super::machine::MachineAnswer;
 use super::machine::MachineStepped;
 use layout::Geometry;
 use layout::Location;
@@ -28,10 +27,7 @@ impl Machine {
     {
         let q = self.ask_freeze();
         if q != 0 {
-            return MachineStepped {
-                answer: MachineAnswer::Refused(q),
-                machine: self,
-            };
+            return self.refused(q);
         }
         let ready = self.ready;
         let t = self.sync;
@@ -39,10 +35,7 @@ impl Machine {
         let sync = t.move_states(3, 2);
         self.ready = next;
         self.sync = sync;
-        MachineStepped {
-            answer: MachineAnswer::Next(DiskOp::NoDiskOp),
-            machine: self,
-        }
+        self.accepted(DiskOp::NoDiskOp)
     }
 
     fn ask_receive_frozen_loc(self, g: Geometry, loc: Location) -> u8
@@ -62,17 +55,11 @@ impl Machine {
     {
         let q = self.ask_receive_frozen_loc(g, loc);
         if q != 0 {
-            return MachineStepped {
-                answer: MachineAnswer::Refused(q),
-                machine: self,
-            };
+            return self.refused(q);
         }
         let ready = self.ready;
         let next = ready.receive_frozen_loc_next(loc);
         self.ready = next;
-        MachineStepped {
-            answer: MachineAnswer::Next(DiskOp::NoDiskOp),
-            machine: self,
-        }
+        self.accepted(DiskOp::NoDiskOp)
     }
 }

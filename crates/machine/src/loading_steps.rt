@@ -62,19 +62,13 @@ impl Machine {
     {
         let q = self.ask_page_in_journal_req(g, which);
         if q != 0 {
-            return MachineStepped {
-                answer: MachineAnswer::Refused(q),
-                machine: self,
-            };
+            return self.refused(q);
         }
         let other = self.other;
         let interval = other.page_in_journal_req_interval(which, g);
         let next = other.page_in_journal_req_next(which, id);
         self.other = next;
-        MachineStepped {
-            answer: MachineAnswer::Next(DiskOp::ReqReadJournal { id, interval }),
-            machine: self,
-        }
+        self.accepted(DiskOp::ReqReadJournal { id, interval })
     }
 
     // PageInJournalResp: where in lent memory the answer's blocks go.
@@ -127,18 +121,12 @@ impl Machine {
     {
         let q = self.ask_page_in_superblock_req(which, id);
         if q != 0 {
-            return MachineStepped {
-                answer: MachineAnswer::Refused(q),
-                machine: self,
-            };
+            return self.refused(q);
         }
         let superblocks = self.superblocks;
         let next = superblocks.page_in_superblock_req_next(which, id);
         self.superblocks = next;
-        MachineStepped {
-            answer: MachineAnswer::Next(DiskOp::ReqReadSuperblock { id, which }),
-            machine: self,
-        }
+        self.accepted(DiskOp::ReqReadSuperblock { id, which })
     }
 
     fn superblock_paged_in(
@@ -175,20 +163,14 @@ impl Machine {
     {
         let q = ask_which(which);
         if q != 0 {
-            return MachineStepped {
-                answer: MachineAnswer::Refused(q),
-                machine: self,
-            };
+            return self.refused(q);
         }
         let next = self.superblock_paged_in(g, which, id, read);
-        MachineStepped {
-            answer: MachineAnswer::Next(DiskOp::RespReadSuperblock {
-                id,
-                which,
-                superblock: read,
-            }),
-            machine: next,
-        }
+        next.accepted(DiskOp::RespReadSuperblock {
+            id,
+            which,
+            superblock: read,
+        })
     }
 
     fn ask_finish_loading_superblock_phase(self) -> u8
@@ -208,19 +190,13 @@ impl Machine {
     {
         let q = self.ask_finish_loading_superblock_phase();
         if q != 0 {
-            return MachineStepped {
-                answer: MachineAnswer::Refused(q),
-                machine: self,
-            };
+            return self.refused(q);
         }
         let superblocks = self.superblocks;
         let other = self.other;
         let selected = superblocks.finish_loading_superblock_phase_next(other);
         let next = self.to_other(selected);
-        MachineStepped {
-            answer: MachineAnswer::Next(DiskOp::NoDiskOp),
-            machine: next,
-        }
+        next.accepted(DiskOp::NoDiskOp)
     }
 
     // FinishLoadingOtherPhase: questions 3 and 6.
@@ -300,17 +276,11 @@ impl Machine {
     {
         let q = self.ask_ask_again(which);
         if q != 0 {
-            return MachineStepped {
-                answer: MachineAnswer::Refused(q),
-                machine: self,
-            };
+            return self.refused(q);
         }
         let superblocks = self.superblocks;
         let next = superblocks.ask_again_next(which);
         self.superblocks = next;
-        MachineStepped {
-            answer: MachineAnswer::Next(DiskOp::NoDiskOp),
-            machine: self,
-        }
+        self.accepted(DiskOp::NoDiskOp)
     }
 }

@@ -9,7 +9,7 @@ use superblock::DiskOp;
 use superblock::Superblock;
 use tables::SyncTable;
 ghost use mathlib.Core.Path.{_≡_};
-ghost use Rattle.machine.specs.Machine.{limitsOf, askLoadingSuperblock, askLoadingOther, askReady, toOther, toReady, noSuperblock, nothingLoaded, initialMachine};
+ghost use Rattle.machine.specs.Machine.{limitsOf, askLoadingSuperblock, askLoadingOther, askReady, toOther, toReady, noSuperblock, nothingLoaded, initialMachine, refused, accepted};
 
 pub enum Kind {
     LoadingSuperblock,
@@ -151,6 +151,26 @@ impl Machine {
             other,
             ready,
             sync,
+        }
+    }
+
+    // A no: the number of the question, and the machine as it was.
+    pub(crate) fn refused(self, q: u8) -> MachineStepped
+        ensures { λ r. ⌜ r ≡ refused self q ⌝ }
+    {
+        MachineStepped {
+            answer: MachineAnswer::Refused(q),
+            machine: self,
+        }
+    }
+
+    // A yes: what is asked of the disk, and this, the next machine.
+    pub(crate) fn accepted(self, op: DiskOp) -> MachineStepped
+        ensures { λ r. ⌜ r ≡ accepted op self ⌝ }
+    {
+        MachineStepped {
+            answer: MachineAnswer::Next(op),
+            machine: self,
         }
     }
 }

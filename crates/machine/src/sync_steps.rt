@@ -1,6 +1,5 @@
 // Sync requests, after questions 1 and 2; neither is a step by itself.
 use super::machine::Machine;
-use super::machine::MachineAnswer;
 use super::machine::MachineStepped;
 use superblock::DiskOp;
 use tables::SyncTable;
@@ -38,17 +37,11 @@ impl Machine {
         let t = self.sync;
         let q = ask_push_sync_req(t, id);
         if q != 0 {
-            return MachineStepped {
-                answer: MachineAnswer::Refused(q),
-                machine: self,
-            };
+            return self.refused(q);
         }
         let sync = t.add(id, 3);
         self.sync = sync;
-        MachineStepped {
-            answer: MachineAnswer::Next(DiskOp::NoDiskOp),
-            machine: self,
-        }
+        self.accepted(DiskOp::NoDiskOp)
     }
 
     // PopSyncReq.
@@ -58,17 +51,11 @@ impl Machine {
         let t = self.sync;
         let q = ask_pop_sync_req(t, id);
         if q != 0 {
-            return MachineStepped {
-                answer: MachineAnswer::Refused(q),
-                machine: self,
-            };
+            return self.refused(q);
         }
         let i = t.place(id);
         let sync = t.remove(i);
         self.sync = sync;
-        MachineStepped {
-            answer: MachineAnswer::Next(DiskOp::NoDiskOp),
-            machine: self,
-        }
+        self.accepted(DiskOp::NoDiskOp)
     }
 }

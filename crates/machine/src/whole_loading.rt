@@ -30,10 +30,7 @@ impl Machine {
     {
         let q = self.ask_state(g, bytes, lens, pieces, rbytes, rlens);
         if q != 0 {
-            return MachineStepped {
-                answer: MachineAnswer::Refused(q),
-                machine: self,
-            };
+            return self.refused(q);
         }
         self.page_in_journal_req_asked(g, which, id)
     }
@@ -108,10 +105,7 @@ impl Machine {
     {
         let q = self.ask_state(g, bytes, lens, pieces, rbytes, rlens);
         if q != 0 {
-            return MachineStepped {
-                answer: MachineAnswer::Refused(q),
-                machine: self,
-            };
+            return self.refused(q);
         }
         self.page_in_superblock_req_asked(which, id)
     }
@@ -133,10 +127,7 @@ impl Machine {
     {
         let q = self.ask_state(g, bytes, lens, pieces, rbytes, rlens);
         if q != 0 {
-            return MachineStepped {
-                answer: MachineAnswer::Refused(q),
-                machine: self,
-            };
+            return self.refused(q);
         }
         self.page_in_superblock_resp_asked(g, which, id, read)
     }
@@ -155,10 +146,7 @@ impl Machine {
     {
         let q = self.ask_state(g, bytes, lens, pieces, rbytes, rlens);
         if q != 0 {
-            return MachineStepped {
-                answer: MachineAnswer::Refused(q),
-                machine: self,
-            };
+            return self.refused(q);
         }
         self.finish_loading_superblock_phase_asked()
     }
@@ -179,10 +167,7 @@ impl Machine {
     {
         let q = self.ask_state(g, bytes, lens, pieces, rbytes, rlens);
         if q != 0 {
-            return MachineStepped {
-                answer: MachineAnswer::Refused(q),
-                machine: self,
-            };
+            return self.refused(q);
         }
         self.finish_loading_other_phase_asked(g, pieces, rbytes, rlens)
     }
@@ -202,10 +187,7 @@ impl Machine {
     {
         let q = self.ask_state(g, bytes, lens, pieces, rbytes, rlens);
         if q != 0 {
-            return MachineStepped {
-                answer: MachineAnswer::Refused(q),
-                machine: self,
-            };
+            return self.refused(q);
         }
         self.ask_again_asked(which)
     }

@@ -64,16 +64,10 @@ impl Machine {
     {
         let q = self.ask_state(g, bytes, lens, pieces, rbytes, rlens);
         if q != 0 {
-            return MachineStepped {
-                answer: MachineAnswer::Refused(q),
-                machine: self,
-            };
+            return self.refused(q);
         }
         let next = self.write_back_journal_resp_asked(id);
-        MachineStepped {
-            answer: MachineAnswer::Next(DiskOp::RespWriteJournal { id }),
-            machine: next,
-        }
+        next.accepted(DiskOp::RespWriteJournal { id })
     }
 
     // WriteBackSuperblockReq_AdvanceLog.
@@ -91,10 +85,7 @@ impl Machine {
     {
         let q = self.ask_state(g, bytes, lens, pieces, rbytes, rlens);
         if q != 0 {
-            return MachineStepped {
-                answer: MachineAnswer::Refused(q),
-                machine: self,
-            };
+            return self.refused(q);
         }
         self.write_back_superblock_req_advance_log_asked(g, id)
     }
@@ -114,10 +105,7 @@ impl Machine {
     {
         let q = self.ask_state(g, bytes, lens, pieces, rbytes, rlens);
         if q != 0 {
-            return MachineStepped {
-                answer: MachineAnswer::Refused(q),
-                machine: self,
-            };
+            return self.refused(q);
         }
         self.write_back_superblock_req_advance_location_asked(g, id)
     }
@@ -138,10 +126,7 @@ impl Machine {
     {
         let q = self.ask_state(g, bytes, lens, pieces, rbytes, rlens);
         if q != 0 {
-            return MachineStepped {
-                answer: MachineAnswer::Refused(q),
-                machine: self,
-            };
+            return self.refused(q);
         }
         self.write_back_superblock_resp_asked(which, id)
     }
@@ -160,10 +145,7 @@ impl Machine {
     {
         let q = self.ask_state(g, bytes, lens, pieces, rbytes, rlens);
         if q != 0 {
-            return MachineStepped {
-                answer: MachineAnswer::Refused(q),
-                machine: self,
-            };
+            return self.refused(q);
         }
         self.freeze_asked()
     }
@@ -183,10 +165,7 @@ impl Machine {
     {
         let q = self.ask_state(g, bytes, lens, pieces, rbytes, rlens);
         if q != 0 {
-            return MachineStepped {
-                answer: MachineAnswer::Refused(q),
-                machine: self,
-            };
+            return self.refused(q);
         }
         self.receive_frozen_loc_asked(g, loc)
     }
@@ -235,10 +214,7 @@ impl Machine {
     {
         let q = self.ask_state(g, bytes, lens, pieces, rbytes, rlens);
         if q != 0 {
-            return MachineStepped {
-                answer: MachineAnswer::Refused(q),
-                machine: self,
-            };
+            return self.refused(q);
         }
         self.replay_asked(rbytes, rlens, brought, sizes, k)
     }
@@ -258,10 +234,7 @@ impl Machine {
     {
         let q = self.ask_state(g, bytes, lens, pieces, rbytes, rlens);
         if q != 0 {
-            return MachineStepped {
-                answer: MachineAnswer::Refused(q),
-                machine: self,
-            };
+            return self.refused(q);
         }
         self.push_sync_req_asked(id)
     }
@@ -281,10 +254,7 @@ impl Machine {
     {
         let q = self.ask_state(g, bytes, lens, pieces, rbytes, rlens);
         if q != 0 {
-            return MachineStepped {
-                answer: MachineAnswer::Refused(q),
-                machine: self,
-            };
+            return self.refused(q);
         }
         self.pop_sync_req_asked(id)
     }
@@ -303,14 +273,8 @@ impl Machine {
     {
         let q = self.ask_state(g, bytes, lens, pieces, rbytes, rlens);
         if q != 0 {
-            return MachineStepped {
-                answer: MachineAnswer::Refused(q),
-                machine: self,
-            };
+            return self.refused(q);
         }
-        MachineStepped {
-            answer: MachineAnswer::Next(DiskOp::NoDiskOp),
-            machine: self,
-        }
+        self.accepted(DiskOp::NoDiskOp)
     }
 }

@@ -1,3 +1,4 @@
+use mathlib.Core.Path.{_∙_}
 use Rattle.machine.specs.Laws.Answers.{refused-first, answered-next, kept-first, kept-next}
 use Rattle.machine.specs.Whole.{askFinish}
 use borrow.Author.Needs.{needs}
@@ -7,6 +8,9 @@ use Rattle.machine.proofs.machine.Machine.finish_loading_other_phase.Ti
 ask-state-requires : tie.Need-ask-state-requires
 ask-state-requires c κs = search needs
 
+refused-requires : tie.Need-refused-requires
+refused-requires c κs = search needs
+
 same-length : tie.Need-same-length
 same-length c = search needs
 
@@ -15,7 +19,7 @@ same-length-2 c = search needs
 
 returns : tie.Need-returns
 unfolding askFinish
-returns c = let a = c .before .ask-state .ensures in let h = c .if1 .taken in (refused-first _ _ _ a _ _ _ h, (kept-first _ _ _ a _ _ h, kept-first _ _ _ a _ _ h))
+returns c = let a = c .before .before .ask-state .ensures in let h = c .before .if1 .taken in (c .refused .ensures ∙ refused-first _ _ _ a _ _ _ h, (kept-first _ _ _ a _ _ h, kept-first _ _ _ a _ _ h))
 
 finish-loading-other-phase-asked-requires : tie.Need-finish-loading-other-phase-asked-requires
 finish-loading-other-phase-asked-requires c κs = search needs
@@ -35,6 +39,7 @@ finish-loading-other-phase-spec =
     tie.close
     (tie.spec
     ask-state-requires
+    refused-requires
     same-length
     same-length-2
     returns

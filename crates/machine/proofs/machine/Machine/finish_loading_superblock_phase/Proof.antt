@@ -1,3 +1,4 @@
+use mathlib.Core.Path.{_∙_}
 use Rattle.machine.specs.Laws.Answers.{refused-first, answered-next}
 use borrow.Author.Needs.{needs}
 use Rattle.machine.proofs.machine.Machine.finish_loading_superblock_phase.Statement.{
@@ -8,8 +9,11 @@ use Rattle.machine.proofs.machine.Machine.finish_loading_superblock_pha
 ask-state-requires : tie.Need-ask-state-requires
 ask-state-requires c κs = search needs
 
+refused-requires : tie.Need-refused-requires
+refused-requires c κs = search needs
+
 returns : tie.Need-returns
-returns c = refused-first _ _ _ (c .before .ask-state .ensures) _ _ _ (c .if1 .taken)
+returns c = c .refused .ensures ∙ refused-first _ _ _ (c .before .before .ask-state .ensures) _ _ _ (c .before .if1 .taken)
 
 finish-loading-superblock-phase-asked-requires :
     tie.Need-finish-loading-superblock-phase-asked-requires
@@ -19,6 +23,4 @@ returns-2 : tie.Need-returns-2
 returns-2 c = answered-next _ _ _ (c .before .before .ask-state .ensures) _ _ _ _ (c .before .if1 .left) (c .finish-loading-superblock-phase-asked .ensures)
 
 pub finish-loading-superblock-phase-spec : {M : Type 1} → statement M
-finish-loading-superblock-phase-spec =
-    tie.close
-    (tie.spec ask-state-requires returns finish-loading-superblock-phase-asked-requires returns-2)
+finish-loading-superblock-phase-spec = tie.close (tie.spec ask-state-requires refused-requires returns finish-loading-superblock-phase-asked-requires returns-2)

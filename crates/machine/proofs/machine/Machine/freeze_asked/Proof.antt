@@ -8,9 +8,12 @@ use Rattle.machine.proofs.machine.Machine.freeze_asked.Tie as tie
 ask-freeze-requires : tie.Need-ask-freeze-requires
 ask-freeze-requires c κs = search needs
 
+refused-requires : tie.Need-refused-requires
+refused-requires c κs = search needs
+
 returns : tie.Need-returns
 unfolding answered freezeMachine
-returns c = search (tests, ← c .before .ask-freeze .ensures)
+returns c = search (tests, c .refused .ensures, ← c .before .before .ask-freeze .ensures)
 
 freeze-next-requires : tie.Need-freeze-next-requires
 freeze-next-requires c κs = search needs
@@ -18,11 +21,12 @@ freeze-next-requires c κs = search needs
 move-states-requires : tie.Need-move-states-requires
 move-states-requires c κs = search needs
 
+accepted-requires : tie.Need-accepted-requires
+accepted-requires c κs = search needs
+
 returns-2 : tie.Need-returns-2
 unfolding answered freezeMachine
-returns-2 c = search (tests, ← c .move-states .ensures, ← c .before .freeze-next .ensures, ← c .before .before .before .before .before .ask-freeze .ensures)
+returns-2 c = search (tests, c .accepted .ensures, ← c .before .move-states .ensures, ← c .before .before .freeze-next .ensures, ← c .before .before .before .before .before .before .ask-freeze .ensures)
 
 pub freeze-asked-spec : {M : Type 1} → statement M
-freeze-asked-spec =
-    tie.close
-    (tie.spec ask-freeze-requires returns freeze-next-requires move-states-requires returns-2)
+freeze-asked-spec = tie.close (tie.spec ask-freeze-requires refused-requires returns freeze-next-requires move-states-requires accepted-requires returns-2)

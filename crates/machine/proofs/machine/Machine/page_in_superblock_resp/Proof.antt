@@ -1,3 +1,4 @@
+use mathlib.Core.Path.{_∙_}
 use Rattle.machine.specs.Laws.Answers.{refused-first, answered-next}
 use borrow.Author.Needs.{needs}
 use Rattle.machine.proofs.machine.Machine.page_in_superblock_resp.Statement.{statement}
@@ -6,8 +7,11 @@ use Rattle.machine.proofs.machine.Machine.page_in_superblock_resp.Tie a
 ask-state-requires : tie.Need-ask-state-requires
 ask-state-requires c κs = search needs
 
+refused-requires : tie.Need-refused-requires
+refused-requires c κs = search needs
+
 returns : tie.Need-returns
-returns c = refused-first _ _ _ (c .before .ask-state .ensures) _ _ _ (c .if1 .taken)
+returns c = c .refused .ensures ∙ refused-first _ _ _ (c .before .before .ask-state .ensures) _ _ _ (c .before .if1 .taken)
 
 page-in-superblock-resp-asked-requires : tie.Need-page-in-superblock-resp-asked-requires
 page-in-superblock-resp-asked-requires c κs = search needs
@@ -16,6 +20,4 @@ returns-2 : tie.Need-returns-2
 returns-2 c = answered-next _ _ _ (c .before .before .ask-state .ensures) _ _ _ _ (c .before .if1 .left) (c .page-in-superblock-resp-asked .ensures)
 
 pub page-in-superblock-resp-spec : {M : Type 1} → statement M
-page-in-superblock-resp-spec =
-    tie.close
-    (tie.spec ask-state-requires returns page-in-superblock-resp-asked-requires returns-2)
+page-in-superblock-resp-spec = tie.close (tie.spec ask-state-requires refused-requires returns page-in-superblock-resp-asked-requires returns-2)

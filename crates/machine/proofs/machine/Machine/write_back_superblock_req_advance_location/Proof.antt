@@ -1,3 +1,4 @@
+use mathlib.Core.Path.{_∙_}
 use Rattle.machine.specs.Laws.Answers.{refused-first, answered-next}
 use borrow.Author.Needs.{needs}
 use Rattle.machine.proofs.machine.Machine.write_back_superblock_req_advance_location.Statement.{
@@ -8,8 +9,11 @@ use Rattle.machine.proofs.machine.Machine.write_back_superblock_req_adv
 ask-state-requires : tie.Need-ask-state-requires
 ask-state-requires c κs = search needs
 
+refused-requires : tie.Need-refused-requires
+refused-requires c κs = search needs
+
 returns : tie.Need-returns
-returns c = refused-first _ _ _ (c .before .ask-state .ensures) _ _ _ (c .if1 .taken)
+returns c = c .refused .ensures ∙ refused-first _ _ _ (c .before .before .ask-state .ensures) _ _ _ (c .before .if1 .taken)
 
 write-back-superblock-req-advance-location-asked-requires :
     tie.Need-write-back-superblock-req-advance-location-asked-requires
@@ -19,10 +23,4 @@ returns-2 : tie.Need-returns-2
 returns-2 c = answered-next _ _ _ (c .before .before .ask-state .ensures) _ _ _ _ (c .before .if1 .left) (c .write-back-superblock-req-advance-location-asked .ensures)
 
 pub write-back-superblock-req-advance-location-spec : {M : Type 1} → statement M
-write-back-superblock-req-advance-location-spec =
-    tie.close
-    (tie.spec
-    ask-state-requires
-    returns
-    write-back-superblock-req-advance-location-asked-requires
-    returns-2)
+write-back-superblock-req-advance-location-spec = tie.close (tie.spec ask-state-requires refused-requires returns write-back-superblock-req-advance-location-asked-requires returns-2)
