@@ -5,3 +5,4 @@ pub mod Found
 pub mod Initial
 pub mod Entries
 pub mod Memory
+pub mod Kinds

@@ -17,6 +17,8 @@ use Rattle.superblock.specs.declared.disk_op.DiskOp.{DiskOp}
 use Rattle.superblock.specs.declared.disk_op.DiskOp.the-variants as op
 use Rattle.journal.specs.Memory.{askSize, copyBlocks}
 use Rattle.range.specs.Form.{allEntries}
+use Rattle.reader.specs.declared.answer.Scanned.{Scanned}
+use Rattle.reader.specs.declared.answer.Scanned.the-variants as scan
 use Rattle.unpacker.specs.Unpack.{askUnpack}
 use Rattle.loading.specs.declared.other.Paged.{Paged}
 use Rattle.loading.specs.Which.{askWhich}
@@ -99,8 +101,11 @@ askFinishLoadingOtherPhaseStep g m =
     andThen (askLoadingOther m)
     (askFinishLoadingOtherPhase g (m .other))
 
+abbrev pub firstBlocks : ℕ → List ℕ → List ℕ
+firstBlocks blocks pieces = take (blocks * 4096) pieces
+
 abbrev pub loadedBytes : Machine → List ℕ → List ℕ
-loadedBytes m pieces = take (loadedBlocks (m .other) * 4096) pieces
+loadedBytes m pieces = firstBlocks (loadedBlocks (m .other)) pieces
 
 unfoldable pub askLoaded : Geometry → Machine → (pieces rbytes rlens : List ℕ) → ℕ
 askLoaded g m pieces rbytes rlens =
@@ -118,6 +123,15 @@ loadedReplayBytes m pieces rbytes = splice rbytes 0 (flat (allEntries (loadedByt
 
 abbrev pub loadedReplayLens : Machine → List ℕ → List ℕ → List ℕ
 loadedReplayLens m pieces rlens = splice rlens 0 (lengths (allEntries (loadedBytes m pieces)))
+
+-- of what was unpacked: the number of a no, and the entries
+unfoldable pub scanRefusal : Scanned → ℕ
+scanRefusal (scan.Total entries bytes) = 0
+scanRefusal (scan.Refused q) = q
+
+unfoldable pub scanEntries : Scanned → ℕ
+scanEntries (scan.Total entries bytes) = entries
+scanEntries (scan.Refused q) = 0
 
 -- ask again: 3, then 4 and 6
 unfoldable pub askAskAgainStep : Machine → ℕ → ℕ

@@ -74,3 +74,7 @@ found q b = cond (eqb q 0) (asked.Held b) (asked.Refused q)
 unfoldable pub refusalOf : Asked → ℕ
 refusalOf (asked.Held b) = 0
 refusalOf (asked.Refused q) = q
+
+unfoldable pub bodiesIn : Asked → Bodies
+bodiesIn (asked.Held b) = b
+bodiesIn (asked.Refused q) = bodies 0 0

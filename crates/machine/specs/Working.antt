@@ -3,6 +3,7 @@
 use Prim.Native.Nat.{ℕ, _+_}
 use mathlib.Core.Bool.{Bool, true, false, cond}
 use mathlib.Core.List.{List}
+use lib.Dec.{eqb}
 use lib.ListN.{take, drop}
 use Rattle.laws.specs.Choice.{ask, andThen}
 use Rattle.laws.specs.Splice.{splice, clipped}
@@ -28,13 +29,18 @@ use Rattle.ready.specs.declared.frozen.MaybeLocation.the-variants as maybe
 use Rattle.ready.specs.declared.entries.Bodies.{Bodies}
 use Rattle.ready.specs.declared.entries.Entries.{Entries}
 use Rattle.ready.specs.declared.ready.Ready.{Ready}
+use Rattle.ready.specs.declared.journal_steps.JournalWrite.{JournalWrite}
+use Rattle.ready.specs.declared.journal_steps.JournalWrite.the-variants as write
+use Rattle.ready.specs.declared.commit_steps.NewSuperblock.{NewSuperblock}
+use Rattle.ready.specs.declared.commit_steps.NewSuperblock.the-variants as new
 use Rattle.ready.specs.State.{count, noneFrozen, awaitsId, commitSlot, replayLeft, sent, left}
-use Rattle.ready.specs.JournalSteps.{sentBlocks, askWriteBackJournalReq, writeBackJournalReqNext, writeBackJournalRespNext}
-use Rattle.ready.specs.CommitSteps.{askAdvanceLog, advancedLog, advanceLogNext, askAdvanceLocation, advancedLocation, advanceLocationNext, writeBackSuperblockRespNext}
+use Rattle.ready.specs.JournalSteps.{sentBlocks, askWriteBackJournalReq, writeBackJournalReq, writeBackJournalReqNext, writeBackJournalRespNext}
+use Rattle.ready.specs.CommitSteps.{askAdvanceLog, advancedLog, advanceLog, advanceLogNext, askAdvanceLocation, advancedLocation, advanceLocation, advanceLocationNext, writeBackSuperblockRespNext}
 use Rattle.ready.specs.FreezeSteps.{askFreeze, freezeNext, askReceiveFrozenLoc, receiveFrozenLocNext}
 use Rattle.ready.specs.EntrySteps.{advanced, askAdvance, advanceNext, replayNext}
 use Rattle.machine.specs.declared.machine.Machine.{Machine}
-use Rattle.machine.specs.Machine.{limitsOf, byKind, askReady, withReady, withSync}
+use Rattle.machine.specs.declared.journal_steps.SentRange.{SentRange}
+use Rattle.machine.specs.Machine.{limitsOf, noSuperblock, byKind, askReady, withReady, withSync}
 
 -- sync requests: State3 goes to State2 where entries are frozen or sent from memory, State2 to State1 where a commit is on disk
 abbrev pub syncs3to2 : SyncTable → SyncTable
@@ -67,6 +73,24 @@ writtenMachine m id1 id2 written =
 abbrev pub writeBackJournalReqMachine : Machine → ℕ → MaybeId → Bodies → Machine
 writeBackJournalReqMachine m id1 id2 b = writtenMachine m id1 id2 (m .ready .writtenJournalLen + sentBlocks (m .ready) b)
 
+-- the range as the code finds it, by its questions: a no of question 3 comes first
+abbrev pub writeAfter : ℕ → JournalWrite → JournalWrite
+writeAfter k w = cond (eqb k 0) w (write.Refused k)
+
+unfoldable pub journalNew : Geometry → Machine → ℕ → MaybeId → Bodies → JournalWrite
+journalNew g m id1 id2 b = writeAfter (askReady m) (writeBackJournalReq g (m .ready) id1 id2 b)
+
+unfoldable pub writeRefusal : JournalWrite → ℕ
+writeRefusal (write.Refused q) = q
+writeRefusal (write.Range start blocks written) = 0
+
+unfoldable pub rangeIn : JournalWrite → SentRange
+rangeIn (write.Refused q) = record { start = 0; blocks = 0; written = 0 }
+rangeIn (write.Range start blocks written) = record { start = start; blocks = blocks; written = written }
+
+abbrev pub rangeOp : ℕ → MaybeId → SentRange → DiskOp
+rangeOp id1 id2 range = op.ReqWriteJournal id1 id2 (range .start) (range .blocks)
+
 -- what is sent, and what is left of pending memory
 abbrev pub sentOf : Machine → Bodies → Count
 sentOf m b = sent (m .ready .entries) b
@@ -98,6 +122,24 @@ commitOp m id new = op.ReqWriteSuperblock id (commitSlot (m .ready)) new
 
 unfoldable pub commitRequested : Machine → Ready → Machine
 commitRequested m ready = withReady m ready
+
+-- the superblock that is sent as the code finds it, by its questions: a no of question 3 comes first
+abbrev pub newAfter : ℕ → NewSuperblock → NewSuperblock
+newAfter k w = cond (eqb k 0) w (new.Refused k)
+
+unfoldable pub logNew : Geometry → Machine → NewSuperblock
+logNew g m = newAfter (askReady m) (advanceLog g (m .ready))
+
+unfoldable pub locationNew : Geometry → Machine → NewSuperblock
+locationNew g m = newAfter (askReady m) (advanceLocation g (m .ready))
+
+unfoldable pub newRefusal : NewSuperblock → ℕ
+newRefusal (new.Is superblock) = 0
+newRefusal (new.Refused q) = q
+
+unfoldable pub newIn : NewSuperblock → Superblock
+newIn (new.Is superblock) = superblock
+newIn (new.Refused q) = noSuperblock
 
 -- WriteBackSuperblockReq_AdvanceLog: 3 and 6
 unfoldable pub askAdvanceLogStep : Geometry → Machine → ℕ

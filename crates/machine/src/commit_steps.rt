@@ -1,17 +1,20 @@
 // Both commits and their answer, after questions 1 and 2; none is a step by itself.
 use super::machine::Kind;
 use super::machine::Machine;
-use super::machine::MachineAnswer;
 use super::machine::MachineStepped;
+use super::machine::no_superblock;
 use layout::Geometry;
 use loading::ask_which;
 use ready::NewSuperblock;
 use ready::Ready;
 use superblock::DiskOp;
+use superblock::Superblock;
 use tables::SyncTable;
 ghost use mathlib.Core.Path.{_≡_};
-ghost use Rattle.machine.specs.Machine.{answered};
-ghost use Rattle.machine.specs.Working.{commitRequested, askAdvanceLogStep, advanceLogOp, advanceLogMachine, askAdvanceLocationStep, advanceLocationOp, advanceLocationMachine, askWriteBackSuperblockRespStep, writeBackSuperblockRespOp, answeredSync, commitAnswered, writeBackSuperblockRespMachine};
+ghost use Rattle.ready.specs.State.{commitSlot};
+ghost use Rattle.ready.specs.CommitSteps.{advanceLogNext, advanceLocationNext};
+ghost use Rattle.machine.specs.Machine.{answered, accepted};
+ghost use Rattle.machine.specs.Working.{newRefusal, newIn, logNew, locationNew, commitOp, commitRequested, askAdvanceLogStep, advanceLogOp, advanceLogMachine, askAdvanceLocationStep, advanceLocationOp, advanceLocationMachine, askWriteBackSuperblockRespStep, writeBackSuperblockRespOp, answeredSync, commitAnswered, writeBackSuperblockRespMachine};
 
 // Where a commit is on disk, sync requests at State2 go to State1.
 fn answered_sync(awaited: bool, t: SyncTable) -> SyncTable
@@ -23,6 +26,26 @@ fn answered_sync(awaited: bool, t: SyncTable) -> SyncTable
     t
 }
 
+// The number of a no to a commit's questions, or 0.
+fn new_refusal(new: NewSuperblock) -> u8
+    ensures { λ r. ⌜ r ≡ newRefusal new ⌝ }
+{
+    match new {
+        NewSuperblock::Is(_) => 0,
+        NewSuperblock::Refused(q) => q,
+    }
+}
+
+// The superblock that is sent; an empty one where there was a no.
+fn new_in(new: NewSuperblock) -> Superblock
+    ensures { λ r. ⌜ r ≡ newIn new ⌝ }
+{
+    match new {
+        NewSuperblock::Is(superblock) => superblock,
+        NewSuperblock::Refused(_) => no_superblock(),
+    }
+}
+
 impl Machine {
     // What either commit's request does: the commit is in flight, and sync requests stay where they are.
     fn commit_requested(mut self, ready: Ready) -> Machine
@@ -32,38 +55,77 @@ impl Machine {
         self
     }
 
+    // The slot that a commit writes.
+    fn slot(self) -> u64
+        ensures { λ r. ⌜ r ≡ commitSlot (self .ready) ⌝ }
+    {
+        let ready = self.ready;
+        ready.commit_slot()
+    }
+
+    // The request of either commit: the superblock goes to the other slot.
+    fn commit_sent(self, id: u64, superblock: Superblock, committing: Ready) -> MachineStepped
+        ensures { λ r. ⌜ r ≡ accepted (commitOp self id superblock) (commitRequested self committing) ⌝ }
+    {
+        let which = self.slot();
+        let next = self.commit_requested(committing);
+        next.accepted(DiskOp::ReqWriteSuperblock {
+            id,
+            which,
+            superblock,
+        })
+    }
+
+    // Questions 3 and 6 of a log commit, and the superblock that is sent then.
+    fn log_new(self, g: Geometry) -> NewSuperblock
+        ensures { λ r. ⌜ r ≡ logNew g self ⌝ }
+    {
+        let q = self.ask_ready();
+        if q != 0 {
+            return NewSuperblock::Refused(q);
+        }
+        let ready = self.ready;
+        ready.advance_log(g)
+    }
+
+    fn log_next(self, id: u64, superblock: Superblock) -> Ready
+        ensures { λ r. ⌜ r ≡ advanceLogNext (self .ready) id superblock ⌝ }
+    {
+        let ready = self.ready;
+        ready.advance_log_next(id, superblock)
+    }
+
     // WriteBackSuperblockReq_AdvanceLog.
     pub fn write_back_superblock_req_advance_log_asked(self, g: Geometry, id: u64) -> MachineStepped
         ensures { λ r. ⌜ r ≡ answered (askAdvanceLogStep g self) (advanceLogOp self id) (advanceLogMachine self id) self ⌝ }
     {
+        let new = self.log_new(g);
+        let q = new_refusal(new);
+        if q != 0 {
+            return self.refused(q);
+        }
+        let superblock = new_in(new);
+        let committing = self.log_next(id, superblock);
+        self.commit_sent(id, superblock, committing)
+    }
+
+    // Questions 3 and 6 of a location commit, and the superblock that is sent then.
+    fn location_new(self, g: Geometry) -> NewSuperblock
+        ensures { λ r. ⌜ r ≡ locationNew g self ⌝ }
+    {
         let q = self.ask_ready();
         if q != 0 {
-            return MachineStepped {
-                answer: MachineAnswer::Refused(q),
-                machine: self,
-            };
+            return NewSuperblock::Refused(q);
         }
         let ready = self.ready;
-        let new = ready.advance_log(g);
-        match new {
-            NewSuperblock::Refused(n) => MachineStepped {
-                answer: MachineAnswer::Refused(n),
-                machine: self,
-            },
-            NewSuperblock::Is(superblock) => {
-                let which = ready.commit_slot();
-                let committing = ready.advance_log_next(id, superblock);
-                let next = self.commit_requested(committing);
-                MachineStepped {
-                    answer: MachineAnswer::Next(DiskOp::ReqWriteSuperblock {
-                        id,
-                        which,
-                        superblock,
-                    }),
-                    machine: next,
-                }
-            },
-        }
+        ready.advance_location(g)
+    }
+
+    fn location_next(self, id: u64, superblock: Superblock) -> Ready
+        ensures { λ r. ⌜ r ≡ advanceLocationNext (self .ready) id superblock ⌝ }
+    {
+        let ready = self.ready;
+        ready.advance_location_next(id, superblock)
     }
 
     // WriteBackSuperblockReq_AdvanceLocation.
@@ -74,34 +136,14 @@ impl Machine {
     ) -> MachineStepped
         ensures { λ r. ⌜ r ≡ answered (askAdvanceLocationStep g self) (advanceLocationOp g self id) (advanceLocationMachine g self id) self ⌝ }
     {
-        let q = self.ask_ready();
+        let new = self.location_new(g);
+        let q = new_refusal(new);
         if q != 0 {
-            return MachineStepped {
-                answer: MachineAnswer::Refused(q),
-                machine: self,
-            };
+            return self.refused(q);
         }
-        let ready = self.ready;
-        let new = ready.advance_location(g);
-        match new {
-            NewSuperblock::Refused(n) => MachineStepped {
-                answer: MachineAnswer::Refused(n),
-                machine: self,
-            },
-            NewSuperblock::Is(superblock) => {
-                let which = ready.commit_slot();
-                let committing = ready.advance_location_next(id, superblock);
-                let next = self.commit_requested(committing);
-                MachineStepped {
-                    answer: MachineAnswer::Next(DiskOp::ReqWriteSuperblock {
-                        id,
-                        which,
-                        superblock,
-                    }),
-                    machine: next,
-                }
-            },
-        }
+        let superblock = new_in(new);
+        let committing = self.location_next(id, superblock);
+        self.commit_sent(id, superblock, committing)
     }
 
     // A commit's answer at a machine at work: where it awaits the id, the commit is done and sync requests move on.

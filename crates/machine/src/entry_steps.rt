@@ -1,6 +1,5 @@
 // Advance and Replay, after questions 1 and 2; neither is a step by itself.
 use super::machine::Machine;
-use super::machine::MachineAnswer;
 use super::machine::MachineStepped;
 use memory::Count;
 use memory::Counted;
@@ -9,11 +8,13 @@ use memory::count_given;
 use memory::is_next;
 use ready::Bodies;
 use ready::Entries;
-use superblock::DiskOp;
+use ready::Ready;
 ghost use mathlib.Core.Path.{_≡_};
 ghost use Rattle.laws.specs.Choice.{unless};
 ghost use Rattle.superblock.specs.declared.disk_op.DiskOp.the-variants.{NoDiskOp};
 ghost use Rattle.memory.specs.Given.{memory, countOf};
+ghost use Rattle.ready.specs.State.{count};
+ghost use Rattle.ready.specs.EntrySteps.{advanceNext, replayNext};
 ghost use Rattle.machine.specs.Machine.{answered};
 ghost use Rattle.machine.specs.Working.{countIn, givenOf, appendedBytes, appendedLens, askAdvanceStep, advanceCount, advanceMachine, replayGiven, askReplayStep, replayCount, replayMachine};
 
@@ -75,25 +76,23 @@ impl Machine {
         ready.advance(limits, bodies.pending, new)
     }
 
-    // The machine after an add of entries that were counted.
-    fn advanced(mut self, bodies: Bodies, given: Counted) -> MachineStepped
-        ensures { λ r. ⌜ r ≡ answered (askAdvanceStep self bodies given) NoDiskOp (advanceMachine self bodies given) self ⌝ }
+    fn advanced(self, after: Counted) -> Ready
+        ensures { λ r. ⌜ r ≡ advanceNext (self .ready) (countIn after .entries) ⌝ }
     {
-        let after = self.advance_count(bodies, given);
-        match after {
-            Counted::Refused(q) => MachineStepped {
-                answer: MachineAnswer::Refused(q),
-                machine: self,
-            },
-            Counted::Now(c) => {
-                let ready = self.ready;
-                let next = ready.advance_next(c.entries);
-                self.ready = next;
-                MachineStepped {
-                    answer: MachineAnswer::Next(DiskOp::NoDiskOp),
-                    machine: self,
-                }
-            },
+        let c = count_in(after);
+        let ready = self.ready;
+        ready.advance_next(c.entries)
+    }
+
+    // What pending memory holds.
+    fn pending(self, bodies: Bodies) -> Count
+        ensures { λ r. ⌜ r ≡ count (self .ready .entries .pending) (bodies .pending) ⌝ }
+    {
+        let ready = self.ready;
+        let e = ready.entries;
+        Count {
+            entries: e.pending,
+            bytes: bodies.pending,
         }
     }
 
@@ -112,22 +111,16 @@ impl Machine {
         ensures { λ _. ⌜ now (lens .exit) ≡ unless (askAdvanceStep self bodies (givenOf (now (brought .entry)) (now (sizes .entry)) k)) (now (lens .entry)) (appendedLens self (countOf (memory (now (brought .entry)) (now (sizes .entry)) k)) (now (sizes .entry)) (now (lens .entry))) ⌝ }
     {
         let given = count_given(brought, sizes, k);
-        let new = count_in(given);
-        let ready = self.ready;
-        let e = ready.entries;
-        let held = Count {
-            entries: e.pending,
-            bytes: bodies.pending,
-        };
-        let r = self.advanced(bodies, given);
-        let a = r.answer;
-        match a {
-            MachineAnswer::Refused(_) => r,
-            MachineAnswer::Next(_) => {
-                append_entries(bytes, lens, held, brought, sizes, new);
-                r
-            },
+        let after = self.advance_count(bodies, given);
+        let q = after.refusal();
+        if q != 0 {
+            return self.refused(q);
         }
+        let new = count_in(given);
+        let held = self.pending(bodies);
+        append_entries(bytes, lens, held, brought, sizes, new);
+        let next = self.advanced(after);
+        self.worked(next)
     }
 
     // Questions 3, 4 and 6 of a replay, and what is taken then.
@@ -150,9 +143,17 @@ impl Machine {
         replay_given(e, rbytes, rlens, brought, sizes, k)
     }
 
+    fn replayed(self, after: Counted) -> Ready
+        ensures { λ r. ⌜ r ≡ replayNext (self .ready) (countIn after) ⌝ }
+    {
+        let taken = count_in(after);
+        let ready = self.ready;
+        ready.replay_next(taken)
+    }
+
     // Replay.
     pub fn replay_asked(
-        mut self,
+        self,
         rbytes: &[u8],
         rlens: &[u16],
         brought: &[u8],
@@ -162,20 +163,11 @@ impl Machine {
         ensures { λ r. ⌜ r ≡ answered (askReplayStep self (now (rbytes .entry)) (now (rlens .entry)) (now (brought .entry)) (now (sizes .entry)) k) NoDiskOp (replayMachine self (countOf (memory (now (brought .entry)) (now (sizes .entry)) k))) self ⌝ }
     {
         let after = self.replay_count(rbytes, rlens, brought, sizes, k);
-        match after {
-            Counted::Refused(q) => MachineStepped {
-                answer: MachineAnswer::Refused(q),
-                machine: self,
-            },
-            Counted::Now(taken) => {
-                let ready = self.ready;
-                let next = ready.replay_next(taken);
-                self.ready = next;
-                MachineStepped {
-                    answer: MachineAnswer::Next(DiskOp::NoDiskOp),
-                    machine: self,
-                }
-            },
+        let q = after.refusal();
+        if q != 0 {
+            return self.refused(q);
         }
+        let next = self.replayed(after);
+        self.worked(next)
     }
 }

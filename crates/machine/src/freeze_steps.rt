@@ -50,7 +50,7 @@ impl Machine {
     }
 
     // ReceiveFrozenLoc.
-    pub fn receive_frozen_loc_asked(mut self, g: Geometry, loc: Location) -> MachineStepped
+    pub fn receive_frozen_loc_asked(self, g: Geometry, loc: Location) -> MachineStepped
         ensures { λ r. ⌜ r ≡ answered (askReceiveFrozenLocStep g self loc) NoDiskOp (receiveFrozenLocMachine self loc) self ⌝ }
     {
         let q = self.ask_receive_frozen_loc(g, loc);
@@ -59,7 +59,6 @@ impl Machine {
         }
         let ready = self.ready;
         let next = ready.receive_frozen_loc_next(loc);
-        self.ready = next;
-        self.accepted(DiskOp::NoDiskOp)
+        self.worked(next)
     }
 }

@@ -7,6 +7,7 @@
 //   write_back_superblock_req_advance_location, write_back_superblock_resp, page_in_journal_req, page_in_journal_resp,
 //   page_in_superblock_req, page_in_superblock_resp, finish_loading_superblock_phase, finish_loading_other_phase, freeze,
 //   receive_frozen_loc, advance, replay, push_sync_req, pop_sync_req, no_op; and ask_again
+//   send_range                        what a journal write does to lent memory
 //   MachineStepped, MachineAnswer     what a step answers: the next machine with its disk operation, or the number of a no and the machine as it was
 // Each of these steps asks every question. One named `.._asked` is a part of a step for a caller that has asked questions 1 and 2 itself: it
 // asks the others and decides by value and on shared slices. Lent memory is then altered by functions that ask nothing; an add and the end of
@@ -18,6 +19,7 @@ mod journal_steps;
 mod loading_steps;
 mod machine;
 mod questions;
+mod sending;
 mod sync_steps;
 mod whole_loading;
 mod whole_working;
@@ -27,3 +29,4 @@ pub use machine::Machine;
 pub use machine::MachineAnswer;
 pub use machine::MachineStepped;
 pub use questions::Asked;
+pub use sending::send_range;

@@ -1,7 +1,6 @@
 // The steps of a machine that loads, after questions 1 and 2; none is a step by itself.
 use super::machine::Kind;
 use super::machine::Machine;
-use super::machine::MachineAnswer;
 use super::machine::MachineStepped;
 use interval::JournalInterval;
 use journal::ask_size;
@@ -18,8 +17,13 @@ use unpacker::unpack;
 ghost use mathlib.Core.Path.{_≡_};
 ghost use Rattle.laws.specs.Choice.{unless};
 ghost use Rattle.superblock.specs.declared.disk_op.DiskOp.the-variants.{NoDiskOp};
-ghost use Rattle.machine.specs.Machine.{answered};
-ghost use Rattle.machine.specs.Loading.{askPageInJournalReqStep, pageInJournalReqOp, pageInJournalReqMachine, wholePlace, pagedIn, askPiece, pageInJournalRespMachine, askPageInSuperblockReqStep, pageInSuperblockReqOp, pageInSuperblockReqMachine, askPageInSuperblockRespStep, pageInSuperblockRespOp, pageInSuperblockRespMachine, askFinishLoadingSuperblockPhaseStep, finishLoadingSuperblockPhaseMachine, askFinishLoadingOtherPhaseStep, askLoaded, loadedMachine, finishLoadingOtherPhaseMachine, loadedReplayBytes, loadedReplayLens, askAskAgainStep, askAgainMachine};
+ghost use Rattle.laws.specs.Splice.{splice};
+ghost use Rattle.laws.specs.Cut.{flat, lengths};
+ghost use Rattle.range.specs.Form.{allEntries};
+ghost use Rattle.unpacker.specs.Unpack.{askUnpack};
+ghost use Rattle.reader.specs.Answer.{scanned};
+ghost use Rattle.machine.specs.Machine.{answered, accepted};
+ghost use Rattle.machine.specs.Loading.{firstBlocks, scanRefusal, scanEntries, loadedBytes, askPageInJournalReqStep, pageInJournalReqOp, pageInJournalReqMachine, wholePlace, pagedIn, askPiece, pageInJournalRespMachine, askPageInSuperblockReqStep, pageInSuperblockReqOp, pageInSuperblockReqMachine, askPageInSuperblockRespStep, pageInSuperblockRespOp, pageInSuperblockRespMachine, askFinishLoadingSuperblockPhaseStep, finishLoadingSuperblockPhaseMachine, askFinishLoadingOtherPhaseStep, askLoaded, loadedMachine, finishLoadingOtherPhaseMachine, loadedReplayBytes, loadedReplayLens, askAskAgainStep, askAgainMachine};
 
 fn whole_place(read: JournalRead, p: Paged) -> Paged
     ensures { λ r. ⌜ r ≡ wholePlace read p ⌝ }
@@ -42,6 +46,39 @@ pub(crate) fn ask_piece(p: Paged, new: &[u8]) -> u8
         len: p.len,
     };
     ask_size(v, new)
+}
+
+// The first blocks of the pieces, unpacked to replay memory.
+fn unpack_blocks(blocks: u64, pieces: &[u8], rbytes: &mut [u8], rlens: &mut [u16]) -> Scanned
+    ensures { λ r. ⌜ r ≡ scanned (askUnpack (firstBlocks blocks (now (pieces .entry))) (now (rbytes .entry)) (now (rlens .entry))) (allEntries (firstBlocks blocks (now (pieces .entry)))) ⌝ }
+    ensures { λ _. ⌜ now (rbytes .exit) ≡ unless (askUnpack (firstBlocks blocks (now (pieces .entry))) (now (rbytes .entry)) (now (rlens .entry))) (now (rbytes .entry)) (splice (now (rbytes .entry)) 0 (flat (allEntries (firstBlocks blocks (now (pieces .entry)))))) ⌝ }
+    ensures { λ _. ⌜ now (rlens .exit) ≡ unless (askUnpack (firstBlocks blocks (now (pieces .entry))) (now (rbytes .entry)) (now (rlens .entry))) (now (rlens .entry)) (splice (now (rlens .entry)) 0 (lengths (allEntries (firstBlocks blocks (now (pieces .entry)))))) ⌝ }
+{
+    let n = bytes_of(blocks, pieces.len());
+    unpack(&pieces[0..n], rbytes, rlens)
+}
+
+// The number of a no to the loaded blocks, or 0.
+fn scan_refusal(s: Scanned) -> u8
+    ensures { λ r. ⌜ r ≡ scanRefusal s ⌝ }
+{
+    match s {
+        Scanned::Total {
+            entries: _,
+            bytes: _,
+        } => 0,
+        Scanned::Refused(q) => q,
+    }
+}
+
+// The loaded entries; none where there was a no.
+fn scan_entries(s: Scanned) -> u64
+    ensures { λ r. ⌜ r ≡ scanEntries s ⌝ }
+{
+    match s {
+        Scanned::Total { entries, bytes: _ } => entries,
+        Scanned::Refused(_) => 0,
+    }
 }
 
 impl Machine {
@@ -91,17 +128,14 @@ impl Machine {
     pub fn page_in_journal_resp_asked(mut self, id: u64, read: JournalRead) -> Machine
         ensures { λ r. ⌜ r ≡ pageInJournalRespMachine self id read ⌝ }
     {
-        let kind = self.kind;
-        match kind {
-            Kind::LoadingSuperblock => self,
-            Kind::LoadingOther => {
-                let other = self.other;
-                let next = other.page_in_journal_resp_next(id, read);
-                self.other = next;
-                self
-            },
-            Kind::Ready => self,
+        let q = self.ask_loading_other();
+        if q != 0 {
+            return self;
         }
+        let other = self.other;
+        let next = other.page_in_journal_resp_next(id, read);
+        self.other = next;
+        self
     }
 
     fn ask_page_in_superblock_req(self, which: u64, id: u64) -> u8
@@ -138,17 +172,14 @@ impl Machine {
     ) -> Machine
         ensures { λ r. ⌜ r ≡ pageInSuperblockRespMachine g self which id read ⌝ }
     {
-        let kind = self.kind;
-        match kind {
-            Kind::LoadingSuperblock => {
-                let superblocks = self.superblocks;
-                let next = superblocks.page_in_superblock_resp_next(which, id, read, g);
-                self.superblocks = next;
-                self
-            },
-            Kind::LoadingOther => self,
-            Kind::Ready => self,
+        let q = self.ask_loading_superblock();
+        if q != 0 {
+            return self;
         }
+        let superblocks = self.superblocks;
+        let next = superblocks.page_in_superblock_resp_next(which, id, read, g);
+        self.superblocks = next;
+        self
     }
 
     // PageInSuperblockResp.
@@ -221,7 +252,31 @@ impl Machine {
         self.to_ready(ready)
     }
 
-    // The entries of the loaded blocks go to replay memory. Question 7, the last one, is asked as they are unpacked.
+    // Questions 3, 6 and 7 of the loaded blocks: their entries go to replay memory. Question 7, the last one, is asked as they are unpacked.
+    fn unpacked(self, g: Geometry, pieces: &[u8], rbytes: &mut [u8], rlens: &mut [u16]) -> Scanned
+        ensures { λ r. ⌜ r ≡ scanned (askLoaded g self (now (pieces .entry)) (now (rbytes .entry)) (now (rlens .entry))) (allEntries (loadedBytes self (now (pieces .entry)))) ⌝ }
+        ensures { λ _. ⌜ now (rbytes .exit) ≡ unless (askLoaded g self (now (pieces .entry)) (now (rbytes .entry)) (now (rlens .entry))) (now (rbytes .entry)) (loadedReplayBytes self (now (pieces .entry)) (now (rbytes .entry))) ⌝ }
+        ensures { λ _. ⌜ now (rlens .exit) ≡ unless (askLoaded g self (now (pieces .entry)) (now (rbytes .entry)) (now (rlens .entry))) (now (rlens .entry)) (loadedReplayLens self (now (pieces .entry)) (now (rlens .entry))) ⌝ }
+    {
+        let q = self.ask_finish_loading_other_phase(g);
+        if q != 0 {
+            return Scanned::Refused(q);
+        }
+        let other = self.other;
+        let blocks = other.loaded_blocks();
+        unpack_blocks(blocks, pieces, rbytes, rlens)
+    }
+
+    // The machine at work, from what was unpacked.
+    fn at_work(self, s: Scanned) -> MachineStepped
+        ensures { λ r. ⌜ r ≡ accepted NoDiskOp (loadedMachine self (scanEntries s)) ⌝ }
+    {
+        let entries = scan_entries(s);
+        let next = self.loaded(entries);
+        next.accepted(DiskOp::NoDiskOp)
+    }
+
+    // The entries of the loaded blocks are the replay.
     pub fn finish_loading_other_phase_asked(
         self,
         g: Geometry,
@@ -233,30 +288,12 @@ impl Machine {
         ensures { λ _. ⌜ now (rbytes .exit) ≡ unless (askLoaded g self (now (pieces .entry)) (now (rbytes .entry)) (now (rlens .entry))) (now (rbytes .entry)) (loadedReplayBytes self (now (pieces .entry)) (now (rbytes .entry))) ⌝ }
         ensures { λ _. ⌜ now (rlens .exit) ≡ unless (askLoaded g self (now (pieces .entry)) (now (rbytes .entry)) (now (rlens .entry))) (now (rlens .entry)) (loadedReplayLens self (now (pieces .entry)) (now (rlens .entry))) ⌝ }
     {
-        let q = self.ask_finish_loading_other_phase(g);
+        let s = self.unpacked(g, pieces, rbytes, rlens);
+        let q = scan_refusal(s);
         if q != 0 {
-            return MachineStepped {
-                answer: MachineAnswer::Refused(q),
-                machine: self,
-            };
+            return self.refused(q);
         }
-        let other = self.other;
-        let blocks = other.loaded_blocks();
-        let n = bytes_of(blocks, pieces.len());
-        let s = unpack(&pieces[0..n], rbytes, rlens);
-        match s {
-            Scanned::Refused(p) => MachineStepped {
-                answer: MachineAnswer::Refused(p),
-                machine: self,
-            },
-            Scanned::Total { entries, bytes: _ } => {
-                let next = self.loaded(entries);
-                MachineStepped {
-                    answer: MachineAnswer::Next(DiskOp::NoDiskOp),
-                    machine: next,
-                }
-            },
-        }
+        self.at_work(s)
     }
 
     fn ask_ask_again(self, which: u64) -> u8

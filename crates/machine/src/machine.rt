@@ -9,7 +9,8 @@ use superblock::DiskOp;
 use superblock::Superblock;
 use tables::SyncTable;
 ghost use mathlib.Core.Path.{_≡_};
-ghost use Rattle.machine.specs.Machine.{limitsOf, askLoadingSuperblock, askLoadingOther, askReady, toOther, toReady, noSuperblock, nothingLoaded, initialMachine, refused, accepted};
+ghost use Rattle.superblock.specs.declared.disk_op.DiskOp.the-variants.{NoDiskOp};
+ghost use Rattle.machine.specs.Machine.{limitsOf, askLoadingSuperblock, askLoadingOther, askReady, withReady, toOther, toReady, noSuperblock, nothingLoaded, initialMachine, refused, accepted};
 
 pub enum Kind {
     LoadingSuperblock,
@@ -37,7 +38,7 @@ pub struct MachineStepped {
     pub machine: Machine,
 }
 
-fn no_superblock() -> Superblock
+pub(crate) fn no_superblock() -> Superblock
     ensures { λ r. ⌜ r ≡ noSuperblock ⌝ }
 {
     let loc = Location { addr: 0, len: 0 };
@@ -154,6 +155,14 @@ impl Machine {
         }
     }
 
+    // Another record of work in the place of its own.
+    pub(crate) fn with_ready(mut self, ready: Ready) -> Machine
+        ensures { λ r. ⌜ r ≡ withReady self ready ⌝ }
+    {
+        self.ready = ready;
+        self
+    }
+
     // A no: the number of the question, and the machine as it was.
     pub(crate) fn refused(self, q: u8) -> MachineStepped
         ensures { λ r. ⌜ r ≡ refused self q ⌝ }
@@ -162,6 +171,14 @@ impl Machine {
             answer: MachineAnswer::Refused(q),
             machine: self,
         }
+    }
+
+    // A step that alters the record of work alone, and asks nothing of the disk.
+    pub(crate) fn worked(mut self, ready: Ready) -> MachineStepped
+        ensures { λ r. ⌜ r ≡ accepted NoDiskOp (withReady self ready) ⌝ }
+    {
+        self.ready = ready;
+        self.accepted(DiskOp::NoDiskOp)
     }
 
     // A yes: what is asked of the disk, and this, the next machine.

@@ -13,7 +13,7 @@ use ready::Entries;
 use tables::SyncTable;
 ghost use mathlib.Core.Path.{_≡_};
 ghost use Rattle.machine.specs.Lent.{lent, askLent};
-ghost use Rattle.machine.specs.Questions.{syncOk, kindOk, machineOk, askEntries, entryBodies, askHeld, bodiesOf, askMachine, found, refusalOf};
+ghost use Rattle.machine.specs.Questions.{syncOk, kindOk, machineOk, askEntries, entryBodies, askHeld, bodiesOf, askMachine, found, refusalOf, bodiesIn};
 ghost use Rattle.machine.specs.Whole.{askMachineOut};
 
 // What was found in pending memory, where nothing is refused: the bytes of its entries.
@@ -30,6 +30,19 @@ impl Asked {
         match self {
             Asked::Held(_) => 0,
             Asked::Refused(q) => q,
+        }
+    }
+
+    // What was found; nothing where there was a no.
+    pub(crate) fn bodies(self) -> Bodies
+        ensures { λ r. ⌜ r ≡ bodiesIn self ⌝ }
+    {
+        match self {
+            Asked::Held(bodies) => bodies,
+            Asked::Refused(_) => Bodies {
+                frozen: 0,
+                pending: 0,
+            },
         }
     }
 }

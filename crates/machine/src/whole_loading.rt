@@ -2,7 +2,6 @@
 // no lent byte.
 use super::loading_steps::ask_piece;
 use super::machine::Machine;
-use super::machine::MachineAnswer;
 use super::machine::MachineStepped;
 use journal::copy_blocks;
 use layout::Geometry;
@@ -10,7 +9,9 @@ use superblock::DiskOp;
 use superblock::JournalRead;
 use superblock::SuperblockRead;
 ghost use mathlib.Core.Path.{_≡_};
+ghost use Rattle.machine.specs.Machine.{accepted};
 ghost use Rattle.machine.specs.Lent.{lent};
+ghost use Rattle.machine.specs.Loading.{pagedIn, pagedPieces, pageInJournalRespOp, pageInJournalRespMachine};
 ghost use Rattle.machine.specs.Whole.{pageInJournalReq, askPaged, pageInJournalResp, pageInJournalRespPieces, pageInSuperblockReq, pageInSuperblockResp, finishLoadingSuperblockPhase, finishLoadingOtherPhase, finishedBytes, finishedLens, askAgain};
 
 impl Machine {
@@ -53,18 +54,25 @@ impl Machine {
     {
         let q = self.ask_paged(g, id, read, new, bytes, lens, pieces, rbytes, rlens);
         if q != 0 {
-            return MachineStepped {
-                answer: MachineAnswer::Refused(q),
-                machine: self,
-            };
+            return self.refused(q);
         }
+        self.copy_paged(g, id, read, new, pieces);
+        self.journal_read(id, read)
+    }
+
+    // The blocks of an answer go to the place of the piece that awaits them.
+    fn copy_paged(self, g: Geometry, id: u64, read: JournalRead, new: &[u8], pieces: &mut [u8])
+        ensures { λ _. ⌜ now (pieces .exit) ≡ pagedPieces (pagedIn g self id read) (now (new .entry)) (now (pieces .entry)) ⌝ }
+    {
         let p = self.paged_in(g, id, read);
         copy_blocks(new, 0, p.len, pieces, p.place);
+    }
+
+    fn journal_read(self, id: u64, read: JournalRead) -> MachineStepped
+        ensures { λ r. ⌜ r ≡ accepted (pageInJournalRespOp id read) (pageInJournalRespMachine self id read) ⌝ }
+    {
         let next = self.page_in_journal_resp_asked(id, read);
-        MachineStepped {
-            answer: MachineAnswer::Next(DiskOp::RespReadJournal { id, journal: read }),
-            machine: next,
-        }
+        next.accepted(DiskOp::RespReadJournal { id, journal: read })
     }
 
     fn ask_paged(

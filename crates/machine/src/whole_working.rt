@@ -1,9 +1,7 @@
 // The steps of work of the machine, whole: questions 1 and 2, then the others, then the lent memory. A refusal hands the machine back and alters
 // no lent byte.
 use super::machine::Machine;
-use super::machine::MachineAnswer;
 use super::machine::MachineStepped;
-use super::questions::Asked;
 use layout::Geometry;
 use layout::Location;
 use superblock::DiskOp;
@@ -32,21 +30,12 @@ impl Machine {
         ensures { λ _. ⌜ now (lens .exit) ≡ writtenLens g (lent (now (bytes .entry)) (now (lens .entry)) (now (pieces .entry)) (now (rbytes .entry)) (now (rlens .entry))) self id1 id2 (now (out .entry)) ⌝ }
     {
         let a = self.ask_with_buffer(g, out, bytes, lens, pieces, rbytes, rlens);
-        match a {
-            Asked::Refused(q) => MachineStepped {
-                answer: MachineAnswer::Refused(q),
-                machine: self,
-            },
-            Asked::Held(bodies) => self.write_back_journal_req_out(
-                g,
-                id1,
-                id2,
-                bodies,
-                out,
-                bytes,
-                lens,
-            ),
+        let q = a.refusal();
+        if q != 0 {
+            return self.refused(q);
         }
+        let bodies = a.bodies();
+        self.write_back_journal_req_out(g, id1, id2, bodies, out, bytes, lens)
     }
 
     // WriteBackJournalResp.
@@ -188,13 +177,12 @@ impl Machine {
         ensures { λ _. ⌜ now (lens .exit) ≡ advancedLens g (lent (now (bytes .entry)) (now (lens .entry)) (now (pieces .entry)) (now (rbytes .entry)) (now (rlens .entry))) self (now (brought .entry)) (now (sizes .entry)) k ⌝ }
     {
         let a = self.ask(g, bytes, lens, pieces, rbytes, rlens);
-        match a {
-            Asked::Refused(q) => MachineStepped {
-                answer: MachineAnswer::Refused(q),
-                machine: self,
-            },
-            Asked::Held(bodies) => self.advance_asked(bodies, brought, sizes, k, bytes, lens),
+        let q = a.refusal();
+        if q != 0 {
+            return self.refused(q);
         }
+        let bodies = a.bodies();
+        self.advance_asked(bodies, brought, sizes, k, bytes, lens)
     }
 
     // Replay.

@@ -21,12 +21,14 @@ use Rattle.memory.specs.Given.{memory, countOf, askGiven, given-asked}
 use Rattle.memory.specs.Replay.{isNext}
 use Rattle.ready.specs.declared.entries.Bodies.{Bodies}
 use Rattle.ready.specs.declared.entries.Entries.{Entries}
-use Rattle.ready.specs.EntrySteps.{advanced, askAdvance, advance, advanceNext, replayNext}
+use Rattle.ready.specs.declared.ready.Ready.{Ready}
+use Rattle.ready.specs.EntrySteps.{advanced, askAdvance, advance, replayNext}
 use Rattle.ready.specs.State.{replayLeft}
 use Rattle.machine.specs.declared.machine.Machine.{Machine}
-use Rattle.machine.specs.Machine.{limitsOf, refused, accepted, answered, withReady}
-use Rattle.machine.specs.Working.{countIn, givenOf, askAdvanceStep, advanceCount, advanceMachine, askReplayGiven, replayGiven, askReplayStep, replayCount, replayMachine, takenThen}
-use Rattle.machine.specs.Laws.Parts.{answered-is, answered-not}
+use Rattle.machine.specs.declared.machine.MachineStepped.{MachineStepped}
+use Rattle.machine.specs.Machine.{limitsOf, accepted, answered, withReady}
+use Rattle.machine.specs.Working.{countIn, givenOf, askAdvanceStep, askReplayGiven, replayGiven, askReplayStep, replayCount, replayMachine, takenThen}
+use Rattle.machine.specs.Laws.Parts.{answered-is}
 
 -- two questions in a row: a no to the first, and a yes
 module _ (k q r : ℕ) (e : k ≡ q) (c : Count) where
@@ -35,21 +37,6 @@ module _ (k q r : ℕ) (e : k ≡ q) (c : Count) where
 
   pub counted-next : (x : Counted) → k ≡ 0 → x ≡ counted r c → x ≡ counted (andThen q r) c
   counted-next x h p = p ∙ ap (λ (n : ℕ). counted n c) (sym (andThen-done q r (sym e ∙ h)))
-
--- Advance, from its count
-module _ (m : Machine) (b : Bodies) (given : Counted) (a : Counted) (e : a ≡ advanceCount m b given) where
-  pub advance-refused : (n : ℕ) → a ≡ answer.Refused n → refused m n ≡ answered (askAdvanceStep m b given) op.NoDiskOp (advanceMachine m b given) m
-  unfolding advanceCount
-  advance-refused n h =
-      let f = counted-refused _ n _ (sym h ∙ e) in answered-not (askAdvanceStep m b given) n op.NoDiskOp (advanceMachine m b given) m (f .0, f .1)
-
-  pub advance-taken : (c : Count) (x : Machine) → a ≡ answer.Now c → x ≡ withReady m (advanceNext (m .ready) (c .entries))
-      → accepted op.NoDiskOp x ≡ answered (askAdvanceStep m b given) op.NoDiskOp (advanceMachine m b given) m
-  unfolding advanceCount advanceMachine
-  advance-taken c x h p =
-      let f = counted-now (askAdvanceStep m b given) (advanced (m .ready) (b .pending) (countIn given)) c (sym h ∙ e) in
-      answered-is (askAdvanceStep m b given) op.NoDiskOp op.NoDiskOp x (advanceMachine m b given) m (f .0) refl
-      (p ∙ ap (λ (d : Count). withReady m (advanceNext (m .ready) (d .entries))) (f .1))
 
 -- what pending memory holds then, by the machine's own limits and the entries that were counted
 pub advance-is : (m : Machine) (b : Bodies) (given : Counted) (limits : Limits) (new : Count) → limits ≡ limitsOf m → new ≡ countIn given → (x : Counted)
@@ -117,22 +104,26 @@ module _ (e : Entries) (rbytes rlens brought sizes : List ℕ) (k : ℕ) (given 
           next-is 0 (sym (ask-holds 6 b z)) (answer.Now (takenThen e new))
           (ap (λ (c : Count). answer.Now (takenThen e c)) (given-is .1) ∙ counted-done 0 (takenThen e (countOf (memory brought sizes k))) refl)
 
+-- the count of an answer, where nothing was refused
+pub count-now : (q : ℕ) (c : Count) (a : Counted) → a ≡ counted q c → q ≡ 0 → countIn a ≡ c
+count-now q c a e h = ap countIn e ∙ count-given-in q c h
+
 -- and from what is taken then
-module _ (m : Machine) (rbytes rlens brought sizes : List ℕ) (k : ℕ) (a : Counted) (e : a ≡ replayCount m rbytes rlens brought sizes k) where
+module _ (m : Machine) (rbytes rlens brought sizes : List ℕ) (k : ℕ) (a : Counted) (e : a ≡ replayCount m rbytes rlens brought sizes k) (n : ℕ) (hn : n ≡ refusal a) where
   abbrev asks : ℕ
   asks = askReplayStep m rbytes rlens brought sizes k
 
-  abbrev next : Machine
-  next = replayMachine m (countOf (memory brought sizes k))
+  abbrev then : Count
+  then = takenThen (m .ready .entries) (countOf (memory brought sizes k))
 
-  pub replay-refused : (n : ℕ) → a ≡ answer.Refused n → refused m n ≡ answered (askReplayStep m rbytes rlens brought sizes k) op.NoDiskOp (replayMachine m (countOf (memory brought sizes k))) m
+  pub replay-number : n ≡ askReplayStep m rbytes rlens brought sizes k
   unfolding replayCount
-  replay-refused n h =
-      let f = counted-refused asks n (takenThen (m .ready .entries) (countOf (memory brought sizes k))) (sym h ∙ e) in answered-not asks n op.NoDiskOp next m (f .0, f .1)
+  replay-number = hn ∙ ap refusal e ∙ refusal-counted asks then
 
-  pub replay-taken : (c : Count) (x : Machine) → a ≡ answer.Now c → x ≡ withReady m (replayNext (m .ready) c)
-      → accepted op.NoDiskOp x ≡ answered (askReplayStep m rbytes rlens brought sizes k) op.NoDiskOp (replayMachine m (countOf (memory brought sizes k))) m
+  pub replay-taken : n ≡ 0 → (ready : Ready) → ready ≡ replayNext (m .ready) (countIn a) → (r : MachineStepped) → r ≡ accepted op.NoDiskOp (withReady m ready)
+      → r ≡ answered (askReplayStep m rbytes rlens brought sizes k) op.NoDiskOp (replayMachine m (countOf (memory brought sizes k))) m
   unfolding replayCount replayMachine
-  replay-taken c x h p =
-      let f = counted-now asks (takenThen (m .ready .entries) (countOf (memory brought sizes k))) c (sym h ∙ e) in
-      answered-is asks op.NoDiskOp op.NoDiskOp x next m (f .0) refl (p ∙ ap (λ (d : Count). withReady m (replayNext (m .ready) d)) (f .1))
+  replay-taken z ready hr r h =
+      h
+      ∙ answered-is asks op.NoDiskOp op.NoDiskOp (withReady m ready) (replayMachine m (countOf (memory brought sizes k))) m (sym replay-number ∙ z) refl
+      (ap (withReady m) (hr ∙ ap (replayNext (m .ready)) (count-now asks then a e (sym replay-number ∙ z))))

@@ -14,7 +14,7 @@ use Rattle.memory.specs.Answer.{counted, refusal, pendingCounted, pendingRefusa
 use Rattle.ready.specs.declared.entries.Bodies.{Bodies}
 use Rattle.machine.specs.declared.questions.Asked.{Asked}
 use Rattle.machine.specs.declared.questions.Asked.the-variants as asked
-use Rattle.machine.specs.Questions.{bodies, found, refusalOf}
+use Rattle.machine.specs.Questions.{bodies, found, refusalOf, bodiesIn}
 
 pub found-no : (q k : ℕ) (b : Bodies) → (q ≡ 0 → ⊥) × (k ≡ q) → asked.Refused k ≡ found q b
 unfolding found
@@ -59,6 +59,15 @@ module _ (q : ℕ) (b : Bodies) (a : Asked) (e : a ≡ found q b) where
       (λ y. let p = y .1 in (y .0, cc))
       (λ z. let p = z .1 in ruin (cc))
       (asked-either q (asked.Held b) (asked.Refused q) a (sym e))
+
+-- the number of what was found, and what was found where nothing was refused
+module _ (q : ℕ) (b : Bodies) (a : Asked) (e : a ≡ found q b) (k : ℕ) (hk : k ≡ refusalOf a) where
+  pub number-found : k ≡ q
+  number-found = hk ∙ ap refusalOf e ∙ refusal-found q b
+
+  pub bodies-found : k ≡ 0 → (v : Bodies) → v ≡ bodiesIn a → (q ≡ 0) × (v ≡ b)
+  unfolding bodiesIn found
+  bodies-found z v hv = let h = sym number-found ∙ z in (h, hv ∙ ap bodiesIn (e ∙ asked-yes q (asked.Held b) (asked.Refused q) h))
 
 -- pending memory, then what is left of the replay
 module _ (q r : ℕ) (f a : Count) (p : PendingCount) (e : p ≡ pendingCounted q f a) (b : Bodies) where

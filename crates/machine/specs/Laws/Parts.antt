@@ -1,34 +1,29 @@
 -- A step that decides by a value: the value tells the number, and with it the answer. The code's proofs cite them.
-use Prim.Native.Nat.{ℕ, _+_, _≤_, _<_}
+use Prim.Native.Nat.{ℕ, _+_}
 use mathlib.Core.Bool.{Bool, true, false, cond}
 use mathlib.Core.Path.{_≡_, refl, sym, _∙_, ap}
-use mathlib.Core.List.{List}
-use mathlib.Core.Logic.{⊎-elim}
-use native.Mathlib.Omega.{arith}
 use lib.Dec.{eqb}
-use lib.ListN.{length, take, drop}
-use Rattle.laws.specs.Choice.{andThen, andThen-first, andThen-done, unless, unless-kept, unless-done, asked-yes, asked-no, asked-either, ask-fails, ask-holds, also-left, also-right, ruin}
+use borrow.Author.Tests.{eqb-true}
+use Rattle.laws.specs.Choice.{andThen, andThen-first, andThen-done, refused-said, asked-yes, asked-no, split-eq}
 use Rattle.layout.specs.declared.geometry.Geometry.{Geometry}
-use Rattle.layout.specs.declared.location.Location.{Location}
 use Rattle.superblock.specs.declared.superblock.Superblock.{Superblock}
 use Rattle.superblock.specs.declared.disk_op.MaybeId.{MaybeId}
 use Rattle.superblock.specs.declared.disk_op.DiskOp.{DiskOp}
 use Rattle.superblock.specs.declared.disk_op.DiskOp.the-variants as op
 use Rattle.ready.specs.declared.entries.Bodies.{Bodies}
-use Rattle.ready.specs.declared.frozen.MaybeLocation.the-variants.{Received}
 use Rattle.ready.specs.declared.ready.Ready.{Ready}
 use Rattle.ready.specs.declared.journal_steps.JournalWrite.{JournalWrite}
 use Rattle.ready.specs.declared.journal_steps.JournalWrite.the-variants as write
 use Rattle.ready.specs.declared.commit_steps.NewSuperblock.{NewSuperblock}
 use Rattle.ready.specs.declared.commit_steps.NewSuperblock.the-variants as new
-use Rattle.ready.specs.JournalSteps.{sentBlocks, askWriteBackJournalReq, writeBackJournalReq}
-use Rattle.ready.specs.CommitSteps.{askAdvanceLog, advancedLog, advanceLog, advanceLogNext, askAdvanceLocation, advancedLocation, advanceLocation, advanceLocationNext}
-use Rattle.ready.specs.State.{commitSlot}
-use Rattle.ready.specs.Laws.Sends.{range-refused, range-sent, new-refused, new-sent, location-refused, location-sent}
+use Rattle.ready.specs.JournalSteps.{journalWrite, sentBlocks, askWriteBackJournalReq, writeBackJournalReq}
+use Rattle.ready.specs.CommitSteps.{newSuperblock, askAdvanceLog, advancedLog, advanceLog, askAdvanceLocation, advancedLocation, advanceLocation}
+use Rattle.ready.specs.Laws.Sends.{location-refused, location-sent}
 use Rattle.machine.specs.declared.machine.Machine.{Machine}
+use Rattle.machine.specs.declared.journal_steps.SentRange.{SentRange}
 use Rattle.machine.specs.declared.machine.MachineStepped.{MachineStepped}
-use Rattle.machine.specs.Machine.{refused, accepted, answered}
-use Rattle.machine.specs.Working.{sentStart, writtenMachine, writeBackJournalReqOp, writeBackJournalReqMachine, commitOp, commitRequested, advanceLogOp, advanceLogMachine, newLocation, receivedOr, advanceLocationOp, advanceLocationMachine}
+use Rattle.machine.specs.Machine.{askReady, refused, accepted, answered}
+use Rattle.machine.specs.Working.{sentStart, askWriteBackJournalReqStep, writtenMachine, writeBackJournalReqOp, writeBackJournalReqMachine, journalNew, writeRefusal, rangeIn, rangeOp, commitOp, commitRequested, newAfter, logNew, locationNew, newRefusal, newIn, askAdvanceLogStep, askAdvanceLocationStep, newLocation, receivedOr}
 use Rattle.machine.specs.Laws.Answers.{answered-no}
 
 -- nothing refused: the operation and the next machine
@@ -39,48 +34,111 @@ answered-is q o op x next m h p k = (λ i. accepted (p i) (k i)) ∙ sym (asked-
 pub answered-not : (q n : ℕ) (op : DiskOp) (next m : Machine) → (q ≡ 0 → ⊥) × (n ≡ q) → refused m n ≡ answered q op next m
 answered-not q n op next m f = answered-no n q (f .1) op next m (λ z. f .0 (sym (f .1) ∙ z))
 
+-- question 3, then the questions of what is sent: an answer that one number decides
+pub asked-after {ℓ} : {A : Type ℓ} (k q : ℕ) (value : A) (f : ℕ → A) → cond (eqb k 0) (cond (eqb q 0) value (f q)) (f k) ≡ cond (eqb (andThen k q) 0) value (f (andThen k q))
+asked-after {A = A} k q value f =
+    split-eq k 0
+    (λ h. asked-yes k (cond (eqb q 0) value (f q)) (f k) h ∙ ap (λ (n : ℕ). cond {A = A} (eqb n 0) value (f n)) (sym (andThen-done k q h)))
+    (λ h. asked-no k (cond (eqb q 0) value (f q)) (f k) h ∙ refused-said k (andThen k q) value f (sym (andThen-first k q h)) h)
+
+-- what is sent tells the number, and where nothing was refused its value
+pub new-number : (q : ℕ) (s : Superblock) → newRefusal (newSuperblock q s) ≡ q
+unfolding newRefusal
+new-number q s = go (eqb q 0) refl
+  where
+    go : (b : Bool) → eqb q 0 ≡ b → newRefusal (cond b (new.Is s) (new.Refused q)) ≡ q
+    go true h = sym (eqb-true q 0 h)
+    go false h = refl
+
+pub new-value : (q : ℕ) (s : Superblock) → q ≡ 0 → newIn (newSuperblock q s) ≡ s
+unfolding newIn
+new-value q s h = ap newIn (asked-yes q (new.Is s) (new.Refused q) h)
+
+pub write-number : (q s b n : ℕ) → writeRefusal (journalWrite q s b n) ≡ q
+unfolding writeRefusal
+write-number q s b n = go (eqb q 0) refl
+  where
+    go : (c : Bool) → eqb q 0 ≡ c → writeRefusal (cond c (write.Range s b n) (write.Refused q)) ≡ q
+    go true h = sym (eqb-true q 0 h)
+    go false h = refl
+
+pub write-value : (q s b n : ℕ) → q ≡ 0 → rangeIn (journalWrite q s b n) ≡ record { start = s; blocks = b; written = n }
+unfolding rangeIn
+write-value q s b n h = ap rangeIn (asked-yes q (write.Range s b n) (write.Refused q) h)
+
 -- a journal write
-module _ (g : Geometry) (m : Machine) (id1 : ℕ) (id2 : MaybeId) (b : Bodies) (w : JournalWrite) (e : w ≡ writeBackJournalReq g (m .ready) id1 id2 b) where
-  pub write-refused : (n : ℕ) → w ≡ write.Refused n
-      → refused m n ≡ answered (askWriteBackJournalReq g (m .ready) id1 id2 b) (writeBackJournalReqOp g m id1 id2 b) (writeBackJournalReqMachine m id1 id2 b) m
-  unfolding writeBackJournalReq
-  write-refused n h = answered-not _ n _ _ m (range-refused _ _ _ _ w e n h)
+module _ (g : Geometry) (m : Machine) (id1 : ℕ) (id2 : MaybeId) (b : Bodies) (w : JournalWrite) (e : w ≡ journalNew g m id1 id2 b) (k : ℕ) (hk : k ≡ writeRefusal w) where
+  abbrev wrote : ℕ
+  wrote = m .ready .writtenJournalLen + sentBlocks (m .ready) b
 
-  pub write-taken : (s k n : ℕ) (x : Machine) → w ≡ write.Range s k n → x ≡ writtenMachine m id1 id2 n
-      → accepted (op.ReqWriteJournal id1 id2 s k) x
-      ≡ answered (askWriteBackJournalReq g (m .ready) id1 id2 b) (writeBackJournalReqOp g m id1 id2 b) (writeBackJournalReqMachine m id1 id2 b) m
-  unfolding writeBackJournalReq
-  write-taken s k n x h p =
-      let f = range-sent _ _ _ _ w e s k n h in
-      answered-is _ _ _ x _ m (f .0) (λ i. op.ReqWriteJournal id1 id2 (f .1 i) (f .2 i)) (p ∙ ap (writtenMachine m id1 id2) (f .3))
+  range-is : w ≡ journalWrite (askWriteBackJournalReqStep g m id1 id2 b) (sentStart g m) (sentBlocks (m .ready) b) wrote
+  unfolding journalNew writeBackJournalReq askWriteBackJournalReqStep
+  range-is =
+      e ∙ asked-after (askReady m) (askWriteBackJournalReq g (m .ready) id1 id2 b) (write.Range (sentStart g m) (sentBlocks (m .ready) b) wrote) write.Refused
 
--- a log commit
-module _ (g : Geometry) (m : Machine) (id : ℕ) (w : NewSuperblock) (e : w ≡ advanceLog g (m .ready)) where
-  pub log-refused : (n : ℕ) → w ≡ new.Refused n → refused m n ≡ answered (askAdvanceLog g (m .ready)) (advanceLogOp m id) (advanceLogMachine m id) m
-  unfolding advanceLog
-  log-refused n h = answered-not _ n _ _ m (new-refused _ _ w e n h)
+  pub range-number : k ≡ askWriteBackJournalReqStep g m id1 id2 b
+  range-number = hk ∙ ap writeRefusal range-is ∙ write-number (askWriteBackJournalReqStep g m id1 id2 b) (sentStart g m) (sentBlocks (m .ready) b) wrote
 
-  pub log-taken : (s : Superblock) (which : ℕ) (ready : Ready) (x : Machine) → w ≡ new.Is s → which ≡ commitSlot (m .ready) → ready ≡ advanceLogNext (m .ready) id s
-      → x ≡ commitRequested m ready
-      → accepted (op.ReqWriteSuperblock id which s) x ≡ answered (askAdvanceLog g (m .ready)) (advanceLogOp m id) (advanceLogMachine m id) m
-  unfolding advanceLog advanceLogMachine
-  log-taken s which ready x h k r p =
-      let f = new-sent _ _ w e s h in
-      answered-is _ _ _ x _ m (f .0) (λ i. op.ReqWriteSuperblock id (k i) (f .1 i))
-      (p ∙ ap (commitRequested m) (r ∙ ap (advanceLogNext (m .ready) id) (f .1)))
+  pub range-taken : k ≡ 0 → (v : SentRange) → v ≡ rangeIn w → (r : MachineStepped) → r ≡ accepted (rangeOp id1 id2 v) (writtenMachine m id1 id2 (v .written))
+      → r ≡ answered (askWriteBackJournalReqStep g m id1 id2 b) (writeBackJournalReqOp g m id1 id2 b) (writeBackJournalReqMachine m id1 id2 b) m
+  range-taken z v hv r hr =
+      let is : v ≡ record { start = sentStart g m; blocks = sentBlocks (m .ready) b; written = wrote }
+      = hv ∙ ap rangeIn range-is ∙ write-value (askWriteBackJournalReqStep g m id1 id2 b) (sentStart g m) (sentBlocks (m .ready) b) wrote (sym range-number ∙ z) in
+      hr
+      ∙ answered-is
+      (askWriteBackJournalReqStep g m id1 id2 b)
+      (rangeOp id1 id2 v)
+      (writeBackJournalReqOp g m id1 id2 b)
+      (writtenMachine m id1 id2 (v .written))
+      (writeBackJournalReqMachine m id1 id2 b)
+      m
+      (sym range-number ∙ z)
+      (ap (λ (x : SentRange). rangeOp id1 id2 x) is)
+      (ap (λ (x : SentRange). writtenMachine m id1 id2 (x .written)) is)
 
--- a location commit
-module _ (g : Geometry) (m : Machine) (id : ℕ) (w : NewSuperblock) (e : w ≡ advanceLocation g (m .ready)) where
-  pub location-not : (n : ℕ) → w ≡ new.Refused n → refused m n ≡ answered (askAdvanceLocation g (m .ready)) (advanceLocationOp g m id) (advanceLocationMachine g m id) m
-  location-not n h = answered-not _ n _ _ m (location-refused g (m .ready) w e n h)
+-- either commit: the number q and the superblock s that its answer tells, and the record of work that it makes of a superblock
+module _ (m : Machine) (id q : ℕ) (s : Superblock) (f : Superblock → Ready) (w : NewSuperblock) (e : w ≡ newSuperblock q s) (k : ℕ) (hk : k ≡ newRefusal w) where
+  number : k ≡ q
+  number = hk ∙ ap newRefusal e ∙ new-number q s
 
-  pub location-taken : (s : Superblock) (which : ℕ) (ready : Ready) (x : Machine) → w ≡ new.Is s → which ≡ commitSlot (m .ready) → ready ≡ advanceLocationNext (m .ready) id s
-      → x ≡ commitRequested m ready
-      → accepted (op.ReqWriteSuperblock id which s) x ≡ answered (askAdvanceLocation g (m .ready)) (advanceLocationOp g m id) (advanceLocationMachine g m id) m
-  unfolding advanceLocationMachine
-  location-taken s which ready x h k r p =
-      let f = location-sent g (m .ready) w e s h in
-      let loc-is : f .1 .0 ≡ newLocation m = sym (ap (λ l. receivedOr l (m .ready .superblock .indirectionTableLoc)) (f .1 .1)) in
-      let s-is : s ≡ advancedLocation g (m .ready) (newLocation m) = f .1 .2 ∙ ap (advancedLocation g (m .ready)) loc-is in
-      answered-is _ _ _ x _ m (f .0) (λ i. op.ReqWriteSuperblock id (k i) (s-is i))
-      (p ∙ ap (commitRequested m) (r ∙ ap (advanceLocationNext (m .ready) id) s-is))
+  pub commit-refused : (k ≡ 0 → ⊥) → refused m k ≡ answered q (commitOp m id s) (commitRequested m (f s)) m
+  commit-refused h = answered-no k q number (commitOp m id s) (commitRequested m (f s)) m h
+
+  pub commit-taken : k ≡ 0 → (x : Superblock) (ready : Ready) → x ≡ newIn w → ready ≡ f x → (r : MachineStepped) → r ≡ accepted (commitOp m id x) (commitRequested m ready)
+      → r ≡ answered q (commitOp m id s) (commitRequested m (f s)) m
+  commit-taken z x ready hx hr r h =
+      let is : x ≡ s = hx ∙ ap newIn e ∙ new-value q s (sym number ∙ z) in
+      h
+      ∙ answered-is q (commitOp m id x) (commitOp m id s) (commitRequested m ready) (commitRequested m (f s)) m (sym number ∙ z)
+      (ap (λ (y : Superblock). commitOp m id y) is)
+      (ap (commitRequested m) (hr ∙ ap f is))
+
+pub log-is : (g : Geometry) (m : Machine) (w : NewSuperblock) → w ≡ logNew g m → w ≡ newSuperblock (askAdvanceLogStep g m) (advancedLog (m .ready))
+unfolding logNew advanceLog askAdvanceLogStep
+log-is g m w e = e ∙ asked-after (askReady m) (askAdvanceLog g (m .ready)) (new.Is (advancedLog (m .ready))) new.Refused
+
+-- a location commit's, by the location last received
+located : (g : Geometry) (m : Machine) (w : NewSuperblock) → w ≡ advanceLocation g (m .ready) → w ≡ newSuperblock (askAdvanceLocation g (m .ready)) (advancedLocation g (m .ready) (newLocation m))
+located g m w e = go w refl
+  where
+    sent : Superblock
+    sent = advancedLocation g (m .ready) (newLocation m)
+
+    asks : ℕ
+    asks = askAdvanceLocation g (m .ready)
+
+    go : (v : NewSuperblock) → w ≡ v → w ≡ newSuperblock (askAdvanceLocation g (m .ready)) (advancedLocation g (m .ready) (newLocation m))
+    go (new.Is s) h =
+        let f = location-sent g (m .ready) w e s h in
+        let loc-is : f .1 .0 ≡ newLocation m = sym (ap (λ l. receivedOr l (m .ready .superblock .indirectionTableLoc)) (f .1 .1)) in
+        h ∙ ap new.Is (f .1 .2 ∙ ap (advancedLocation g (m .ready)) loc-is) ∙ sym (asked-yes asks (new.Is sent) (new.Refused asks) (f .0))
+    go (new.Refused n) h =
+        let f = location-refused g (m .ready) w e n h in
+        h ∙ ap new.Refused (f .1) ∙ sym (asked-no asks (new.Is sent) (new.Refused asks) (f .0))
+
+pub location-is : (g : Geometry) (m : Machine) (w : NewSuperblock) → w ≡ locationNew g m → w ≡ newSuperblock (askAdvanceLocationStep g m) (advancedLocation g (m .ready) (newLocation m))
+unfolding locationNew askAdvanceLocationStep
+location-is g m w e =
+    e
+    ∙ ap (λ (v : NewSuperblock). newAfter (askReady m) v) (located g m (advanceLocation g (m .ready)) refl)
+    ∙ asked-after (askReady m) (askAdvanceLocation g (m .ready)) (new.Is (advancedLocation g (m .ready) (newLocation m))) new.Refused
