@@ -13,7 +13,7 @@ use tables::SyncTable;
 ghost use mathlib.Core.Path.{_≡_};
 ghost use Rattle.ready.specs.State.{commitSlot};
 ghost use Rattle.ready.specs.CommitSteps.{advanceLogNext, advanceLocationNext};
-ghost use Rattle.machine.specs.Machine.{answered, accepted};
+ghost use Rattle.machine.specs.Machine.{withReady, answered, accepted};
 ghost use Rattle.machine.specs.Working.{newRefusal, newIn, logNew, locationNew, commitOp, commitRequested, askAdvanceLogStep, advanceLogOp, advanceLogMachine, askAdvanceLocationStep, advanceLocationOp, advanceLocationMachine, askWriteBackSuperblockRespStep, writeBackSuperblockRespOp, answeredSync, commitAnswered, writeBackSuperblockRespMachine};
 
 // Where a commit is on disk, sync requests at State2 go to State1.
@@ -49,7 +49,7 @@ fn new_in(new: NewSuperblock) -> Superblock
 impl Machine {
     // What either commit's request does: the commit is in flight, and sync requests stay where they are.
     fn commit_requested(mut self, ready: Ready) -> Machine
-        ensures { λ r. ⌜ r ≡ commitRequested self ready ⌝ }
+        ensures { λ r. ⌜ r ≡ withReady self ready ⌝ }
     {
         self.ready = ready;
         self
