@@ -220,6 +220,31 @@ module _ (g : Geometry) (m : Machine) (pieces rbytes rlens : List ℕ) (s : Scan
       ∙ answered-is loads op.NoDiskOp op.NoDiskOp (loadedMachine m (scanEntries s)) (finishLoadingOtherPhaseMachine m pieces) m (sym load-number ∙ z) refl
       (ap (loadedMachine m) (ap scanEntries hs ∙ scan-value loads (allEntries (loadedBytes m pieces)) (sym load-number ∙ z)))
 
+-- the end of loading, whole: q is the number of questions 1 and 2
+module _ (g : Geometry) (m : Machine) (pieces rbytes rlens : List ℕ) (k q : ℕ) (hk : k ≡ q) where
+  abbrev asks : ℕ
+  asks = askLoaded g m pieces rbytes rlens
+
+  pub finish-refused : (k ≡ 0 → ⊥) → (r : MachineStepped) → r ≡ refused m k
+      → (r ≡ answered (andThen q (askLoaded g m pieces rbytes rlens)) op.NoDiskOp (finishLoadingOtherPhaseMachine m pieces) m)
+      × ((rbytes ≡ unless (andThen q (askLoaded g m pieces rbytes rlens)) rbytes (loadedReplayBytes m pieces rbytes))
+      × (rlens ≡ unless (andThen q (askLoaded g m pieces rbytes rlens)) rlens (loadedReplayLens m pieces rlens)))
+  finish-refused h r e = (
+    e ∙ refused-first k q asks hk op.NoDiskOp (finishLoadingOtherPhaseMachine m pieces) m h,
+    (kept-first k q asks hk rbytes (loadedReplayBytes m pieces rbytes) h, kept-first k q asks hk rlens (loadedReplayLens m pieces rlens) h),
+  )
+
+  pub finish-taken : k ≡ 0 → (r : MachineStepped) (x y : List ℕ) → r ≡ answered (askLoaded g m pieces rbytes rlens) op.NoDiskOp (finishLoadingOtherPhaseMachine m pieces) m
+      → x ≡ unless (askLoaded g m pieces rbytes rlens) rbytes (loadedReplayBytes m pieces rbytes)
+      → y ≡ unless (askLoaded g m pieces rbytes rlens) rlens (loadedReplayLens m pieces rlens)
+      → (r ≡ answered (andThen q (askLoaded g m pieces rbytes rlens)) op.NoDiskOp (finishLoadingOtherPhaseMachine m pieces) m)
+      × ((x ≡ unless (andThen q (askLoaded g m pieces rbytes rlens)) rbytes (loadedReplayBytes m pieces rbytes))
+      × (y ≡ unless (andThen q (askLoaded g m pieces rbytes rlens)) rlens (loadedReplayLens m pieces rlens)))
+  finish-taken h r x y hr hx hy = (
+    answered-next k q asks hk op.NoDiskOp (finishLoadingOtherPhaseMachine m pieces) m r h hr,
+    (kept-next k q asks hk x rbytes (loadedReplayBytes m pieces rbytes) h hx, kept-next k q asks hk y rlens (loadedReplayLens m pieces rlens) h hy),
+  )
+
 -- the answer and the memory of a step that was taken with what was found
 module _ (q : ℕ) (r : Bodies → ℕ) (b v : Bodies) (h : (q ≡ 0) × (v ≡ b)) where
   pub found-answered : (op : Bodies → DiskOp) (next : Bodies → Machine) (m : Machine) (x : MachineStepped) → x ≡ answered (r v) (op v) (next v) m

@@ -1,5 +1,4 @@
-use mathlib.Core.Path.{_∙_}
-use Rattle.machine.specs.Laws.Answers.{refused-first, answered-next, kept-first, kept-next}
+use Rattle.machine.specs.Laws.Memory.{finish-refused, finish-taken}
 use Rattle.machine.specs.Whole.{askFinish}
 use borrow.Author.Needs.{needs}
 use Rattle.machine.proofs.machine.Machine.finish_loading_other_phase.Statement.{statement}
@@ -19,7 +18,7 @@ same-length-2 c = search needs
 
 returns : tie.Need-returns
 unfolding askFinish
-returns c = let a = c .before .before .ask-state .ensures in let h = c .before .if1 .taken in (c .refused .ensures ∙ refused-first _ _ _ a _ _ _ h, (kept-first _ _ _ a _ _ h, kept-first _ _ _ a _ _ h))
+returns c = finish-refused _ _ _ _ _ _ _ (c .before .before .ask-state .ensures) (c .before .if1 .taken) _ (c .refused .ensures)
 
 finish-loading-other-phase-asked-requires : tie.Need-finish-loading-other-phase-asked-requires
 finish-loading-other-phase-asked-requires c κs = search needs
@@ -32,7 +31,7 @@ same-length-4 c = search needs
 
 returns-2 : tie.Need-returns-2
 unfolding askFinish
-returns-2 c = let a = c .before .before .before .before .before .before .before .before .ask-state .ensures in let h = c .before .before .before .before .before .before .before .if1 .left in let r = c .before .before .before .before .finish-loading-other-phase-asked .ensures in (answered-next _ _ _ a _ _ _ _ h (r .0), (kept-next _ _ _ a _ _ _ h (r .1 .0), kept-next _ _ _ a _ _ _ h (r .1 .1)))
+returns-2 c = finish-taken _ _ _ _ _ _ _ (c .before .before .before .before .before .before .before .before .ask-state .ensures) (c .before .before .before .before .before .before .before .if1 .left) _ _ _ (c .before .before .before .before .finish-loading-other-phase-asked .ensures .0) (c .before .before .before .before .finish-loading-other-phase-asked .ensures .1 .0) (c .before .before .before .before .finish-loading-other-phase-asked .ensures .1 .1)
 
 pub finish-loading-other-phase-spec : {M : Type 1} → statement M
 finish-loading-other-phase-spec =
