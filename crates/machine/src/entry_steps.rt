@@ -153,7 +153,7 @@ impl Machine {
 
     // Replay.
     pub fn replay_asked(
-        self,
+        mut self,
         rbytes: &[u8],
         rlens: &[u16],
         brought: &[u8],

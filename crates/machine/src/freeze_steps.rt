@@ -50,7 +50,7 @@ impl Machine {
     }
 
     // ReceiveFrozenLoc.
-    pub fn receive_frozen_loc_asked(self, g: Geometry, loc: Location) -> MachineStepped
+    pub fn receive_frozen_loc_asked(mut self, g: Geometry, loc: Location) -> MachineStepped
         ensures { λ r. ⌜ r ≡ answered (askReceiveFrozenLocStep g self loc) NoDiskOp (receiveFrozenLocMachine self loc) self ⌝ }
     {
         let q = self.ask_receive_frozen_loc(g, loc);

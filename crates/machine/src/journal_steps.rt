@@ -138,7 +138,7 @@ impl Machine {
     }
 
     // WriteBackJournalResp.
-    pub fn write_back_journal_resp_asked(self, id: u64) -> Machine
+    pub fn write_back_journal_resp_asked(mut self, id: u64) -> Machine
         ensures { λ r. ⌜ r ≡ writeBackJournalRespMachine self id ⌝ }
     {
         let q = self.ask_ready();
