@@ -121,16 +121,8 @@ fn commit_writes(slot: u64, commit: Commit) -> SuperblockWrites
     ensures { λ r. ⌜ r ≡ commitWrites slot commit ⌝ }
 {
     let write = commit_write(commit);
-    if slot == 0 {
-        return SuperblockWrites {
-            first: write,
-            second: SuperblockWrite::NoWrite,
-        };
-    }
-    SuperblockWrites {
-        first: SuperblockWrite::NoWrite,
-        second: write,
-    }
+    let none = no_writes();
+    none.put(slot, write)
 }
 
 fn superblocks_await(superblocks: LoadingSuperblock) -> Awaited

@@ -163,10 +163,10 @@ fn landed(slot: MaybeSuperblock, write: SuperblockWrite) -> bool
     else {
         return false;
     };
-    let MaybeSuperblock::Holds(t) = slot else {
+    let MaybeSuperblock::Holds(held) = slot else {
         return false;
     };
-    t.same(s)
+    held.same(s)
 }
 
 // Questions 4, 5 and 6 of a superblock write's answer.

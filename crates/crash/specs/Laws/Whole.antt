@@ -73,7 +73,7 @@ crash-passes g d picture pictured blocks marks e =
     (idle-ok g (d .slots))
 
 -- a question asked twice
-asked-twice : (q r : ℕ) → andThen q (andThen q r) ≡ andThen q r
+pub asked-twice : (q r : ℕ) → andThen q (andThen q r) ≡ andThen q r
 asked-twice q r = split-eq q 0 (λ h. andThen-done q (andThen q r) h) (λ h. andThen-first q (andThen q r) h ∙ sym (andThen-first q r h))
 
 -- the disk's own content for the picture: the questions are the disk's, and lent memory stays as it is, refused or not

@@ -1,7 +1,7 @@
 -- Loading the journal: what each test of a piece tells, question 2's test as facts, what a yes to each step's questions tells, what an answer
 -- does by which piece awaits it, and how many blocks the pieces have; a law each way.
 use Prim.Native.Nat.{ℕ, _+_, _≤_, _<_}
-use mathlib.Core.Bool.{true, false, not}
+use mathlib.Core.Bool.{Bool, true, false, not}
 use mathlib.Core.Path.{_≡_, refl, sym, _∙_, ap}
 use mathlib.Core.Option.{Option, none, some}
 use native.Mathlib.Omega.{arith}
@@ -10,6 +10,7 @@ use Rattle.laws.specs.Choice.{also, ruin, false-true, not-so, split-bool, also-
 use Rattle.laws.specs.Sets.{none-some}
 use Rattle.layout.specs.declared.geometry.Geometry.{Geometry}
 use Rattle.interval.specs.declared.interval.JournalInterval.{JournalInterval}
+use Rattle.interval.specs.declared.answer.MaybeInterval.{MaybeInterval}
 use Rattle.interval.specs.Answer.{maybeInterval}
 use Rattle.interval.specs.Interval.{interval}
 use Rattle.interval.specs.Laws.{lenOf, parts-none, parts-straight, parts-wrapped, parts-cases, parts-fit}
@@ -23,6 +24,13 @@ use Rattle.loading.specs.declared.other.LoadingOther.{LoadingOther}
 use Rattle.loading.specs.Pieces.{isThere, blocksOf, pieceInterval, pieceReads, pieceUnread, pieceLoaded, pieceReadsDiffer, pieceRead}
 use Rattle.loading.specs.Other.{frontOf, backOf, frontBlocks, backBlocks, piecesOk, loadingOtherOk, intervalAt, pieceAt, toPieces, askPageInJournalReq, intervalOf, pageInJournalReqInterval, place, placeOf, pageInJournalRespNext, askFinishLoadingOtherPhase}
 use Rattle.loading.specs.Laws.Which.{which-asked, asked-which, not-true, true-not}
+
+-- question 2's test of the pieces, from its parts
+pub pieces-ok : (g : Geometry) (o : LoadingOther) (first second : MaybeInterval) (a b c : Bool) → first ≡ frontOf g (o .superblock) → second ≡ backOf g (o .superblock)
+    → a ≡ pieceInterval (o .front) first → b ≡ pieceInterval (o .back) second → c ≡ pieceReadsDiffer (o .front) (o .back) → also (also a b) c ≡ piecesOk g o
+unfolding piecesOk
+pieces-ok g o first second a b c hf hb ha hd hc =
+    λ i. also (also ((ha ∙ ap (pieceInterval (o .front)) hf) i) ((hd ∙ ap (pieceInterval (o .back)) hb) i)) (hc i)
 
 -- A piece
 

@@ -1,5 +1,5 @@
-use Rattle.loading.specs.Other.{piecesOk}
 use Rattle.laws.specs.Choice.{also}
+use Rattle.loading.specs.Laws.Other.{pieces-ok}
 use borrow.Author.Needs.{needs}
 use Rattle.loading.proofs.other.LoadingOther.pieces_ok.Statement.{statement}
 use Rattle.loading.proofs.other.LoadingOther.pieces_ok.Tie as tie
@@ -20,8 +20,8 @@ differs-requires : tie.Need-differs-requires
 differs-requires c κs = search needs
 
 returns : tie.Need-returns
-unfolding piecesOk also
-returns c = cc
+unfolding also
+returns c = pieces-ok _ _ _ _ _ _ _ (c .before .before .before .before .front .ensures) (c .before .before .before .back .ensures) (c .before .before .has-interval .ensures) (c .before .has-interval2 .ensures) (c .differs .ensures)
 
 pub pieces-ok-spec : {M : Type 1} → statement M
 pieces-ok-spec =
