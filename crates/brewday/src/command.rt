@@ -1,5 +1,5 @@
 // A line as a step of the store.
-use store::Step;
+use calls::Step;
 use superblock::MaybeId;
 use words::Parsed;
 use words::Word;

@@ -54,7 +54,8 @@ fn play(
         return s;
     };
     let none = [0u8; 1];
-    let r = s.step(
+    let r = calls::step(
+        s,
         geometry(),
         x,
         brought,

@@ -27,15 +27,18 @@ lent bytes lens pieces rbytes rlens blocks marks =
 abbrev pub machineLent : Lent → machine.Lent
 machineLent l = record { bytes = l .bytes; lens = l .lens; pieces = l .pieces; rbytes = l .rbytes; rlens = l .rlens }
 
--- what a call brings beside it: entries, and the picture of a crash
-pub record Given : Type 0 where
-  pub brought : List ℕ
-  pub sizes : List ℕ
-  pub picture : List ℕ
-  pub pictured : List ℕ
+-- l.(pending := ..), and so for each memory
+abbrev pub withPending : Lent → List ℕ → List ℕ → Lent
+withPending l bytes lens = record { bytes = bytes; lens = lens; pieces = l .pieces; rbytes = l .rbytes; rlens = l .rlens; blocks = l .blocks; marks = l .marks }
 
-abbrev pub given : (brought sizes picture pictured : List ℕ) → Given
-given brought sizes picture pictured = record { brought = brought; sizes = sizes; picture = picture; pictured = pictured }
+abbrev pub withPieces : Lent → List ℕ → Lent
+withPieces l pieces = record { bytes = l .bytes; lens = l .lens; pieces = pieces; rbytes = l .rbytes; rlens = l .rlens; blocks = l .blocks; marks = l .marks }
+
+abbrev pub withReplay : Lent → List ℕ → List ℕ → Lent
+withReplay l rbytes rlens = record { bytes = l .bytes; lens = l .lens; pieces = l .pieces; rbytes = rbytes; rlens = rlens; blocks = l .blocks; marks = l .marks }
+
+abbrev pub withJournal : Lent → List ℕ → List ℕ → Lent
+withJournal l blocks marks = record { bytes = l .bytes; lens = l .lens; pieces = l .pieces; rbytes = l .rbytes; rlens = l .rlens; blocks = blocks; marks = marks }
 
 -- question 2 of the disk, and of both together
 unfoldable pub askRest : Geometry → Store → ℕ

@@ -1,5 +1,5 @@
 pub mod Store
 pub mod Lent
 pub mod Steps
-pub mod Step
+pub mod Whole
 pub mod Laws

@@ -24,8 +24,8 @@ use Rattle.machine.specs.declared.machine.MachineAnswer.{MachineAnswer}
 use Rattle.machine.specs.declared.machine.MachineAnswer.the-variants as machine
 use Rattle.machine.specs.declared.machine.MachineStepped.{MachineStepped}
 use Rattle.machine.specs.Machine.{initialMachine}
-use Rattle.machine.specs.Loading.{askPageInJournalReqStep, pageInJournalReqOp, pageInJournalReqMachine, pagedIn, pageInJournalRespOp, pageInJournalRespMachine, askPageInSuperblockReqStep, pageInSuperblockReqOp, pageInSuperblockReqMachine, askPageInSuperblockRespStep, pageInSuperblockRespOp, pageInSuperblockRespMachine, askFinishLoadingSuperblockPhaseStep, finishLoadingSuperblockPhaseMachine, askLoaded, finishLoadingOtherPhaseMachine, askAskAgainStep, askAgainMachine}
-use Rattle.machine.specs.Working.{sentStart, askWriteBackJournalReqStep, writeBackJournalReqOp, writeBackJournalReqMachine, sentRange, movedBytes, movedLens, writeBackJournalRespOp, writeBackJournalRespMachine, askAdvanceLogStep, advanceLogOp, advanceLogMachine, askAdvanceLocationStep, advanceLocationOp, advanceLocationMachine, askWriteBackSuperblockRespStep, writeBackSuperblockRespOp, writeBackSuperblockRespMachine, askFreezeStep, freezeMachine, askReceiveFrozenLocStep, receiveFrozenLocMachine, askAdvanceStep, advanceMachine, givenOf, askReplayStep, replayMachine}
+use Rattle.machine.specs.Loading.{askPageInJournalReqStep, pageInJournalReqOp, pageInJournalReqMachine, pagedIn, pageInJournalRespOp, pageInJournalRespMachine, askPageInSuperblockReqStep, pageInSuperblockReqOp, pageInSuperblockReqMachine, askPageInSuperblockRespStep, pageInSuperblockRespOp, pageInSuperblockRespMachine, askFinishLoadingSuperblockPhaseStep, finishLoadingSuperblockPhaseMachine, askLoaded, finishLoadingOtherPhaseMachine, loadedReplayBytes, loadedReplayLens, askAskAgainStep, askAgainMachine}
+use Rattle.machine.specs.Working.{sentStart, askWriteBackJournalReqStep, writeBackJournalReqOp, writeBackJournalReqMachine, sentRange, movedBytes, movedLens, writeBackJournalRespOp, writeBackJournalRespMachine, askAdvanceLogStep, advanceLogOp, advanceLogMachine, askAdvanceLocationStep, advanceLocationOp, advanceLocationMachine, askWriteBackSuperblockRespStep, writeBackSuperblockRespOp, writeBackSuperblockRespMachine, askFreezeStep, freezeMachine, askReceiveFrozenLocStep, receiveFrozenLocMachine, askAdvanceStep, advanceMachine, appendedBytes, appendedLens, givenOf, askReplayStep, replayMachine}
 use Rattle.machine.specs.Sync.{askPushSyncReq, pushSyncReqMachine, askPopSyncReq, popSyncReqMachine}
 use Rattle.disk.specs.declared.disk.Disk.{Disk}
 use Rattle.disk.specs.declared.disk.DiskAnswer.{DiskAnswer}
@@ -36,9 +36,11 @@ use Rattle.disk.specs.Next.{ackReadJournalNext}
 use Rattle.disk.specs.Operation.{askDecision, operationNext}
 use Rattle.requests.specs.Landing.{askLand}
 use Rattle.disk.specs.Next.{landNext}
+use Rattle.crash.specs.Picture.{crashedBlocks, crashedMarks}
 use Rattle.crash.specs.Whole.{crashedDisk}
 use Rattle.store.specs.declared.store.Store.{Store}
 use Rattle.store.specs.declared.store.StoreStepped.{StoreStepped}
+use Rattle.store.specs.Lent.{Lent, withPending, withPieces, withReplay, withJournal}
 use Rattle.store.specs.Store.{store, refused, answered}
 
 -- a step of the machine, and its operation at the disk: q is what the machine asks, next the machine after it
@@ -83,6 +85,13 @@ writtenBlocks g s b bytes lens blocks = sentRange (s .machine) b bytes lens bloc
 
 abbrev pub writtenMarks : Geometry → Store → Bodies → List ℕ → List ℕ
 writtenMarks g s b marks = updateMarks marks (writtenInterval g s b)
+
+abbrev pub writtenLent : Geometry → Lent → Store → ℕ → Bodies → Lent
+writtenLent g l s q b =
+    withJournal
+    (withPending l (unless q (l .bytes) (movedBytes (s .machine) b (l .bytes))) (unless q (l .lens) (movedLens (s .machine) b (l .lens))))
+    (unless q (l .blocks) (writtenBlocks g s b (l .bytes) (l .lens) (l .blocks)))
+    (unless q (l .marks) (writtenMarks g s b (l .marks)))
 
 -- the interval of a journal write; none of any other operation
 abbrev pub intervalOf : DiskOp → JournalInterval
@@ -141,6 +150,10 @@ copiedPieces p v blocks pieces = copyBlocks blocks (v .start) (p .len) pieces (p
 abbrev pub readPieces : Geometry → Store → ℕ → Bool → (blocks pieces : List ℕ) → List ℕ
 readPieces g s id whole blocks pieces = copiedPieces (pagedIn g (s .machine) id (readOf whole)) (heldInterval (s .disk .journalReads) id) blocks pieces
 
+abbrev pub readLent : Geometry → Lent → Store → ℕ → Bool → Lent
+readLent g l s id whole =
+    withPieces l (unless (askJournalRead s id whole (l .marks)) (l .pieces) (readPieces g s id whole (l .blocks) (l .pieces)))
+
 -- PageInSuperblockReq
 abbrev pub readSuperblock : Geometry → Store → ℕ → ℕ → StoreStepped
 readSuperblock g s which id =
@@ -166,6 +179,12 @@ abbrev pub finishOther : Geometry → Store → (pieces rbytes rlens : List ℕ)
 finishOther g s pieces rbytes rlens =
     both g s (askLoaded g (s .machine) pieces rbytes rlens) op.NoDiskOp (finishLoadingOtherPhaseMachine (s .machine) pieces)
 
+abbrev pub finishedLent : Lent → Store → ℕ → Lent
+finishedLent l s q =
+    withReplay l
+    (unless q (l .rbytes) (loadedReplayBytes (s .machine) (l .pieces) (l .rbytes)))
+    (unless q (l .rlens) (loadedReplayLens (s .machine) (l .pieces) (l .rlens)))
+
 -- Freeze, ReceiveFrozenLoc
 abbrev pub freeze : Geometry → Store → StoreStepped
 freeze g s = both g s (askFreezeStep (s .machine)) op.NoDiskOp (freezeMachine (s .machine))
@@ -177,6 +196,12 @@ receive g s loc = both g s (askReceiveFrozenLocStep g (s .machine) loc) op.NoDis
 abbrev pub add : Geometry → Store → Bodies → (brought sizes : List ℕ) → ℕ → StoreStepped
 add g s b brought sizes k =
     both g s (askAdvanceStep (s .machine) b (givenOf brought sizes k)) op.NoDiskOp (advanceMachine (s .machine) b (givenOf brought sizes k))
+
+abbrev pub addedLent : Lent → Store → (brought sizes : List ℕ) → ℕ → ℕ → Bodies → Lent
+addedLent l s brought sizes k q b =
+    withPending l
+    (unless q (l .bytes) (appendedBytes b (countOf (memory brought sizes k)) brought (l .bytes)))
+    (unless q (l .lens) (appendedLens (s .machine) (countOf (memory brought sizes k)) sizes (l .lens)))
 
 abbrev pub replay : Geometry → Store → (rbytes rlens brought sizes : List ℕ) → ℕ → StoreStepped
 replay g s rbytes rlens brought sizes k =
@@ -203,3 +228,7 @@ land s which = answered (askLand (s .disk .superblockWrites) which) op.NoDiskOp 
 -- a crash: the machine is Init's, and no request is left
 abbrev pub crashed : Store → Store
 crashed s = store initialMachine (crashedDisk (s .disk))
+
+abbrev pub crashedLent : Lent → Store → (picture pictured : List ℕ) → Lent
+crashedLent l s picture pictured =
+    withJournal l (crashedBlocks (s .disk .journalWrites) picture (l .blocks)) (crashedMarks (s .disk .journalWrites) pictured (l .marks))

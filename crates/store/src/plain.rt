@@ -1,6 +1,5 @@
 // The steps that leave lent memory alone, after questions 1 and 2; none is a step by itself.
 use super::store::Store;
-use super::store::StoreAnswer;
 use super::store::StoreStepped;
 use disk::DiskAnswer;
 use layout::Geometry;
@@ -13,7 +12,7 @@ ghost use Rattle.store.specs.Steps.{journalWritten, commitLog, commitLoc
 
 impl Store {
     // WriteBackJournalResp.
-    pub(crate) fn journal_written(self, g: Geometry, id: u64) -> StoreStepped
+    pub fn write_back_journal_resp_asked(self, g: Geometry, id: u64) -> StoreStepped
         ensures { λ r. ⌜ r ≡ journalWritten g self id ⌝ }
     {
         let m = self.machine;
@@ -26,7 +25,7 @@ impl Store {
     }
 
     // WriteBackSuperblockReq_AdvanceLog.
-    pub(crate) fn commit_log(self, g: Geometry, id: u64) -> StoreStepped
+    pub fn write_back_superblock_req_advance_log_asked(self, g: Geometry, id: u64) -> StoreStepped
         ensures { λ r. ⌜ r ≡ commitLog g self id ⌝ }
     {
         let m = self.machine;
@@ -35,7 +34,11 @@ impl Store {
     }
 
     // WriteBackSuperblockReq_AdvanceLocation.
-    pub(crate) fn commit_location(self, g: Geometry, id: u64) -> StoreStepped
+    pub fn write_back_superblock_req_advance_location_asked(
+        self,
+        g: Geometry,
+        id: u64,
+    ) -> StoreStepped
         ensures { λ r. ⌜ r ≡ commitLocation g self id ⌝ }
     {
         let m = self.machine;
@@ -44,7 +47,7 @@ impl Store {
     }
 
     // WriteBackSuperblockResp: of the slot whose write in flight has the id.
-    pub(crate) fn superblock_written(self, g: Geometry, id: u64) -> StoreStepped
+    pub fn write_back_superblock_resp_asked(self, g: Geometry, id: u64) -> StoreStepped
         ensures { λ r. ⌜ r ≡ superblockWritten g self id ⌝ }
     {
         let m = self.machine;
@@ -56,7 +59,7 @@ impl Store {
     }
 
     // PageInJournalReq.
-    pub(crate) fn read_journal(self, g: Geometry, which: u64, id: u64) -> StoreStepped
+    pub fn page_in_journal_req_asked(self, g: Geometry, which: u64, id: u64) -> StoreStepped
         ensures { λ r. ⌜ r ≡ readJournal g self which id ⌝ }
     {
         let m = self.machine;
@@ -65,7 +68,7 @@ impl Store {
     }
 
     // PageInSuperblockReq.
-    pub(crate) fn read_superblock(self, g: Geometry, which: u64, id: u64) -> StoreStepped
+    pub fn page_in_superblock_req_asked(self, g: Geometry, which: u64, id: u64) -> StoreStepped
         ensures { λ r. ⌜ r ≡ readSuperblock g self which id ⌝ }
     {
         let m = self.machine;
@@ -74,7 +77,7 @@ impl Store {
     }
 
     // PageInSuperblockResp: whole, with what the slot holds.
-    pub(crate) fn superblock_read(
+    pub fn page_in_superblock_resp_asked(
         self,
         g: Geometry,
         which: u64,
@@ -91,7 +94,7 @@ impl Store {
     }
 
     // FinishLoadingSuperblockPhase.
-    pub(crate) fn finish_superblocks(self, g: Geometry) -> StoreStepped
+    pub fn finish_loading_superblock_phase_asked(self, g: Geometry) -> StoreStepped
         ensures { λ r. ⌜ r ≡ finishSuperblocks g self ⌝ }
     {
         let m = self.machine;
@@ -100,7 +103,7 @@ impl Store {
     }
 
     // Freeze.
-    pub(crate) fn freeze(self, g: Geometry) -> StoreStepped
+    pub fn freeze_asked(self, g: Geometry) -> StoreStepped
         ensures { λ r. ⌜ r ≡ freeze g self ⌝ }
     {
         let m = self.machine;
@@ -109,7 +112,7 @@ impl Store {
     }
 
     // ReceiveFrozenLoc.
-    pub(crate) fn receive(self, g: Geometry, loc: Location) -> StoreStepped
+    pub fn receive_frozen_loc_asked(self, g: Geometry, loc: Location) -> StoreStepped
         ensures { λ r. ⌜ r ≡ receive g self loc ⌝ }
     {
         let m = self.machine;
@@ -118,7 +121,7 @@ impl Store {
     }
 
     // PushSyncReq.
-    pub(crate) fn push_sync(self, g: Geometry, id: u64) -> StoreStepped
+    pub fn push_sync_req_asked(self, g: Geometry, id: u64) -> StoreStepped
         ensures { λ r. ⌜ r ≡ pushSync g self id ⌝ }
     {
         let m = self.machine;
@@ -127,7 +130,7 @@ impl Store {
     }
 
     // PopSyncReq.
-    pub(crate) fn pop_sync(self, g: Geometry, id: u64) -> StoreStepped
+    pub fn pop_sync_req_asked(self, g: Geometry, id: u64) -> StoreStepped
         ensures { λ r. ⌜ r ≡ popSync g self id ⌝ }
     {
         let m = self.machine;
@@ -136,7 +139,7 @@ impl Store {
     }
 
     // NoOp.
-    pub(crate) fn no_op(self, g: Geometry) -> StoreStepped
+    pub fn no_op_asked(self, g: Geometry) -> StoreStepped
         ensures { λ r. ⌜ r ≡ noOp g self ⌝ }
     {
         let m = self.machine;
@@ -148,7 +151,7 @@ impl Store {
     }
 
     // Ask again.
-    pub(crate) fn ask_again(self, g: Geometry, which: u64) -> StoreStepped
+    pub fn ask_again_asked(self, g: Geometry, which: u64) -> StoreStepped
         ensures { λ r. ⌜ r ≡ askAgain g self which ⌝ }
     {
         let m = self.machine;
@@ -157,24 +160,19 @@ impl Store {
     }
 
     // A landing: the machine sees nothing of it.
-    pub(crate) fn land(self, which: u64) -> StoreStepped
+    pub fn land_asked(self, which: u64) -> StoreStepped
         ensures { λ r. ⌜ r ≡ land self which ⌝ }
     {
         let d = self.disk;
         let e = d.land_asked(which);
         let a = e.answer;
         match a {
-            DiskAnswer::Refused(q) => StoreStepped {
-                answer: StoreAnswer::Refused(q),
-                store: self,
-            },
+            DiskAnswer::Refused(q) => self.refused(q),
             DiskAnswer::Done => {
                 let machine = self.machine;
                 let disk = e.disk;
-                StoreStepped {
-                    answer: StoreAnswer::Next(DiskOp::NoDiskOp),
-                    store: Store { machine, disk },
-                }
+                let next = Store { machine, disk };
+                next.accepted(DiskOp::NoDiskOp)
             },
         }
     }

@@ -54,4 +54,22 @@ impl Store {
         }
         a
     }
+
+    // The same as a number.
+    pub fn ask_state(
+        self,
+        g: Geometry,
+        bytes: &[u8],
+        lens: &[u16],
+        pieces: &[u8],
+        rbytes: &[u8],
+        rlens: &[u16],
+        blocks: &[u8],
+        marks: &[u8],
+    ) -> u8
+        ensures { λ r. ⌜ r ≡ askStore g (lent (now (bytes .entry)) (now (lens .entry)) (now (pieces .entry)) (now (rbytes .entry)) (now (rlens .entry)) (now (blocks .entry)) (now (marks .entry))) self ⌝ }
+    {
+        let a = self.ask(g, bytes, lens, pieces, rbytes, rlens, blocks, marks);
+        a.refusal()
+    }
 }

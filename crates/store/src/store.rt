@@ -10,7 +10,7 @@ use superblock::DiskOp;
 ghost use mathlib.Core.Path.{_≡_};
 ghost use Rattle.machine.specs.Machine.{initialMachine};
 ghost use Rattle.disk.specs.Disk.{idleDisk};
-ghost use Rattle.store.specs.Store.{store};
+ghost use Rattle.store.specs.Store.{store, refused, accepted};
 ghost use Rattle.store.specs.Steps.{machineRefusal, diskRefusal, bothBy};
 
 pub struct Store {
@@ -57,6 +57,26 @@ impl Store {
         Store { machine, disk }
     }
 
+    // A no hands the store back.
+    pub fn refused(self, q: u8) -> StoreStepped
+        ensures { λ r. ⌜ r ≡ refused self q ⌝ }
+    {
+        StoreStepped {
+            answer: StoreAnswer::Refused(q),
+            store: self,
+        }
+    }
+
+    // A yes hands over the next store, with the disk operation that was done.
+    pub(crate) fn accepted(self, op: DiskOp) -> StoreStepped
+        ensures { λ r. ⌜ r ≡ accepted op self ⌝ }
+    {
+        StoreStepped {
+            answer: StoreAnswer::Next(op),
+            store: self,
+        }
+    }
+
     // A step that the machine has answered goes to the disk; either's no leaves the store.
     pub(crate) fn both(self, g: Geometry, stepped: MachineStepped) -> StoreStepped
         ensures { λ r. ⌜ r ≡ bothBy g self stepped ⌝ }
@@ -64,26 +84,18 @@ impl Store {
         let a = stepped.answer;
         let MachineAnswer::Next(op) = a else {
             let q = machine_refusal(a);
-            return StoreStepped {
-                answer: StoreAnswer::Refused(q),
-                store: self,
-            };
+            return self.refused(q);
         };
         let d = self.disk;
         let e = d.decide_asked(g, op);
         let b = e.answer;
         let DiskAnswer::Done = b else {
             let q = disk_refusal(b);
-            return StoreStepped {
-                answer: StoreAnswer::Refused(q),
-                store: self,
-            };
+            return self.refused(q);
         };
         let machine = stepped.machine;
         let disk = e.disk;
-        StoreStepped {
-            answer: StoreAnswer::Next(op),
-            store: Store { machine, disk },
-        }
+        let next = Store { machine, disk };
+        next.accepted(op)
     }
 }

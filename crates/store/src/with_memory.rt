@@ -10,6 +10,7 @@ use journal::copy_blocks;
 use journal::set_marks;
 use layout::Geometry;
 use machine::Machine;
+use memory::Count;
 use memory::move_front;
 use ready::Bodies;
 use superblock::DiskOp;
@@ -17,9 +18,13 @@ use superblock::JournalRead;
 use superblock::MaybeId;
 use writer::put_range;
 ghost use mathlib.Core.Path.{_≡_};
+ghost use lib.ListN.{take, drop};
 ghost use Rattle.laws.specs.Choice.{unless};
+ghost use Rattle.laws.specs.Splice.{splice};
 ghost use Rattle.superblock.specs.declared.disk_op.DiskOp.the-variants.{NoDiskOp};
+ghost use Rattle.journal.specs.Memory.{updateMarks};
 ghost use Rattle.memory.specs.Given.{memory, countOf};
+ghost use Rattle.writer.specs.Ring.{putRange};
 ghost use Rattle.machine.specs.Loading.{askLoaded, loadedReplayBytes, loadedReplayLens};
 ghost use Rattle.machine.specs.Working.{movedBytes, movedLens, givenOf, askAdvanceStep, appendedBytes, appendedLens};
 ghost use Rattle.crash.specs.Picture.{crashedBlocks, crashedMarks};
@@ -68,9 +73,30 @@ fn read_of(whole: bool) -> JournalRead
     JournalRead::Damaged
 }
 
+// The range of what is sent goes into the ring, its blocks' marks become 1, and what is left of pending memory moves to its front.
+fn write_range(
+    op: DiskOp,
+    sent: Count,
+    left: Count,
+    bytes: &mut [u8],
+    lens: &mut [u16],
+    blocks: &mut [u8],
+    marks: &mut [u8],
+)
+    ensures { λ _. ⌜ now (bytes .exit) ≡ splice (now (bytes .entry)) 0 (take (left .bytes) (drop (sent .bytes) (now (bytes .entry)))) ⌝ }
+    ensures { λ _. ⌜ now (lens .exit) ≡ splice (now (lens .entry)) 0 (take (left .entries) (drop (sent .entries) (now (lens .entry)))) ⌝ }
+    ensures { λ _. ⌜ now (blocks .exit) ≡ putRange (now (bytes .entry)) (now (lens .entry)) (sent .entries) (sent .bytes) (now (blocks .entry)) (intervalOf op .start) ⌝ }
+    ensures { λ _. ⌜ now (marks .exit) ≡ updateMarks (now (marks .entry)) (intervalOf op) ⌝ }
+{
+    let v = interval_of(op);
+    put_range(bytes, lens, sent.entries, sent.bytes, blocks, v.start);
+    set_marks(v, marks);
+    move_front(bytes, lens, sent, left);
+}
+
 impl Store {
     // WriteBackJournalReq: the range goes from pending memory into the ring, and what is left of pending memory moves to its front.
-    pub(crate) fn write_journal(
+    pub fn write_back_journal_req_asked(
         self,
         g: Geometry,
         id1: u64,
@@ -97,17 +123,14 @@ impl Store {
         match a {
             StoreAnswer::Refused(_) => r,
             StoreAnswer::Next(op) => {
-                let v = interval_of(op);
-                put_range(bytes, lens, sent.entries, sent.bytes, blocks, v.start);
-                set_marks(v, marks);
-                move_front(bytes, lens, sent, left);
+                write_range(op, sent, left, bytes, lens, blocks, marks);
                 r
             },
         }
     }
 
     // PageInJournalResp: whole, the disk's own blocks go to the place of the piece that awaits them.
-    pub(crate) fn journal_read(
+    pub fn page_in_journal_resp_asked(
         self,
         g: Geometry,
         id: u64,
@@ -122,28 +145,23 @@ impl Store {
         let read = read_of(whole);
         let m = self.machine;
         let d = self.disk;
-        let p = m.paged_in(g, id, read);
         let e = d.ack_read_journal_asked(id, whole, marks);
         let a = e.answer;
         match a {
-            JournalAnswer::Refused(q) => StoreStepped {
-                answer: StoreAnswer::Refused(q),
-                store: self,
-            },
+            JournalAnswer::Refused(q) => self.refused(q),
             JournalAnswer::Read(v) => {
+                let p = m.paged_in(g, id, read);
                 copy_blocks(blocks, v.start, p.len, pieces, p.place);
                 let machine = m.page_in_journal_resp_asked(id, read);
                 let disk = e.disk;
-                StoreStepped {
-                    answer: StoreAnswer::Next(DiskOp::RespReadJournal { id, journal: read }),
-                    store: Store { machine, disk },
-                }
+                let next = Store { machine, disk };
+                next.accepted(DiskOp::RespReadJournal { id, journal: read })
             },
         }
     }
 
     // FinishLoadingOtherPhase. Nothing is asked of the disk.
-    pub(crate) fn finish_other(
+    pub fn finish_loading_other_phase_asked(
         self,
         g: Geometry,
         pieces: &[u8],
@@ -160,7 +178,7 @@ impl Store {
     }
 
     // Advance. Nothing is asked of the disk.
-    pub(crate) fn add(
+    pub fn advance_asked(
         self,
         g: Geometry,
         bodies: Bodies,
@@ -180,7 +198,7 @@ impl Store {
     }
 
     // Replay.
-    pub(crate) fn replay(
+    pub fn replay_asked(
         self,
         g: Geometry,
         rbytes: &[u8],
@@ -207,18 +225,15 @@ impl Store {
     }
 
     // The crash whose picture is the disk's own content: no byte is altered.
-    pub(crate) fn crash_in_place(self) -> StoreStepped
+    pub fn crash_in_place_asked(self) -> StoreStepped
         ensures { λ r. ⌜ r ≡ accepted NoDiskOp (crashed self) ⌝ }
     {
         let next = self.crashed();
-        StoreStepped {
-            answer: StoreAnswer::Next(DiskOp::NoDiskOp),
-            store: next,
-        }
+        next.accepted(DiskOp::NoDiskOp)
     }
 
     // The crash with a picture.
-    pub(crate) fn crash(
+    pub fn crash_asked(
         self,
         picture: &[u8],
         pictured: &[u8],
@@ -232,6 +247,6 @@ impl Store {
         let d = self.disk;
         let writes = d.journalWrites;
         crash_memory(writes, picture, pictured, blocks, marks);
-        self.crash_in_place()
+        self.crash_in_place_asked()
     }
 }

@@ -1,8 +1,8 @@
 // A line as a step of the store.
 use super::brought;
 use super::numbers;
+use calls::Step;
 use layout::Location;
-use store::Step;
 use superblock::MaybeId;
 use words::Parsed;
 use words::Word;

@@ -3,10 +3,10 @@ use super::command;
 use super::command::Command;
 use super::input::Input;
 use super::row;
+use calls::Step;
 use digest::check_number;
 use layout::Geometry;
 use runs::lesser;
-use store::Step;
 use store::Store;
 
 // The store so far, and the number of the last line.
@@ -53,7 +53,8 @@ fn step(
     marks: &mut [u8],
 ) -> Store {
     let none = [0u8; 1];
-    let r = s.step(
+    let r = calls::step(
+        s,
         g,
         x,
         brought,

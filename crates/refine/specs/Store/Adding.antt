@@ -26,11 +26,11 @@ use Rattle.machine.specs.Questions.{bodiesOf}
 use Rattle.machine.specs.Working.{givenOf, askAdvanceStep, advanceMachine, appendedBytes, appendedLens}
 use Rattle.store.specs.declared.store.Store.{Store}
 use Rattle.store.specs.declared.store.StoreAnswer.the-variants as answer
-use Rattle.store.specs.declared.calls.Step.the-variants as step
+use Rattle.calls.specs.declared.calls.Step.the-variants as step
 use Rattle.store.specs.Store.{store}
-use Rattle.store.specs.Lent.{Lent, Given, machineLent, askStore}
-use Rattle.store.specs.Steps.{askBoth, both, add}
-use Rattle.store.specs.Step.{withPending, addedLent}
+use Rattle.store.specs.Lent.{Lent, machineLent, askStore, withPending}
+use Rattle.calls.specs.Given.{Given}
+use Rattle.store.specs.Steps.{askBoth, both, add, addedLent}
 use Rattle.refine.specs.Machine.ReadyForm as form
 use Rattle.refine.specs.Machine.MachineEntries.{asked-entries, advance-clauses}
 use Rattle.refine.specs.Store.Seen.{seen, SizedStore, store-met, callOf, entriesCall}
@@ -50,7 +50,7 @@ module _ (g : Geometry) (l : Lent) (v : Given) (s : Store) (k : ℕ) where
       withPending l (appendedBytes b (countOf (memory (v .brought) (v .sizes) k)) (v .brought) (l .bytes))
       (appendedLens (s .machine) (countOf (memory (v .brought) (v .sizes) k)) (v .sizes) (l .lens))
 
-  lent-added : q ≡ 0 → addedLent l v s k q b ≡ after
+  lent-added : q ≡ 0 → addedLent l s (v .brought) (v .sizes) k q b ≡ after
   lent-added e = λ i. withPending l (unless-done q (l .bytes) (after .bytes) e i) (unless-done q (l .lens) (after .lens) e i)
 
   given-there : q ≡ 0 → form.Given (v .brought) (v .sizes) k
@@ -65,12 +65,12 @@ module _ (g : Geometry) (l : Lent) (v : Given) (s : Store) (k : ℕ) where
       (sym (entries-is (v .brought) (v .sizes) k (ledger.add (view (v .brought) (v .sizes) k)) (given-there e))) tied-add
 
   pub add-takes : (z : SizedStore s) → askStore g l s ≡ 0 → (o : DiskOp) → add g s b (v .brought) (v .sizes) k .answer ≡ answer.Next o
-      → Takes g format limits (seen g l s) (seen g (addedLent l v s k q b) (add g s b (v .brought) (v .sizes) k .store)) (callOf v (step.Advance k))
+      → Takes g format limits (seen g l s) (seen g (addedLent l s (v .brought) (v .sizes) k q b) (add g s b (v .brought) (v .sizes) k .store)) (callOf v (step.Advance k))
   unfolding both askBoth
   add-takes z e o a =
       let m = store-met g l s z e in
       let next : Store = store (advanceMachine (s .machine) b (givenOf (v .brought) (v .sizes) k)) (s .disk) in
-      answered-takes g l s (andThen q 0) op.NoDiskOp next (addedLent l v s k q b) after (callOf v (step.Advance k)) o a
+      answered-takes g l s (andThen q 0) op.NoDiskOp next (addedLent l s (v .brought) (v .sizes) k q b) after (callOf v (step.Advance k)) o a
       (λ h. lent-added (andThen-left q 0 h))
       (λ h.
       let h0 = andThen-left q 0 h in

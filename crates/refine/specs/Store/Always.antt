@@ -20,9 +20,10 @@ use Rattle.requests.specs.Laws.Landing.{land-asked}
 use Rattle.store.specs.declared.store.Store.{Store}
 use Rattle.store.specs.declared.store.StoreAnswer.the-variants as answer
 use Rattle.store.specs.declared.store.StoreStepped.{StoreStepped}
-use Rattle.store.specs.declared.calls.Step.the-variants as step
+use Rattle.calls.specs.declared.calls.Step.the-variants as step
 use Rattle.store.specs.Store.{store}
-use Rattle.store.specs.Lent.{Lent, Given, machineLent, askStore}
+use Rattle.store.specs.Lent.{Lent, machineLent, askStore}
+use Rattle.calls.specs.Given.{Given}
 use Rattle.store.specs.Steps.{pushSync, popSync, noOp, land}
 use Rattle.store.specs.Laws.Answers.{asked-next, next-asked}
 use Rattle.refine.specs.Disk.View.{diskOf}

@@ -23,11 +23,12 @@ use Rattle.machine.specs.declared.machine.Machine.{Machine}
 use Rattle.disk.specs.Operation.{askDecision, operationNext}
 use Rattle.requests.specs.Laws.Pairs.{whichOf, which-in, bit-which}
 use Rattle.store.specs.declared.store.Store.{Store}
-use Rattle.store.specs.declared.calls.Step.{Step}
+use Rattle.calls.specs.declared.calls.Step.{Step}
 use Rattle.store.specs.Store.{store}
-use Rattle.store.specs.Lent.{Lent, Given, machineLent}
+use Rattle.store.specs.Lent.{Lent, machineLent}
+use Rattle.calls.specs.Given.{Given}
 use Rattle.store.specs.Steps.{askBoth, both}
-use Rattle.store.specs.Step.{stepAnswer, stepLent, askPicture}
+use Rattle.calls.specs.Step.{stepAnswer, stepLent, askPicture}
 use Rattle.store.specs.Laws.Answers.{asked-next}
 use Rattle.refine.specs.Machine.ReadyView.{slotOf}
 use Rattle.refine.specs.Machine.MachineView.{machineOf, operationOf}

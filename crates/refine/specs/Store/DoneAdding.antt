@@ -22,11 +22,12 @@ use Rattle.history.specs.Statement.{tied-add}
 use Rattle.machine.specs.Questions.{bodiesOf}
 use Rattle.machine.specs.Working.{givenOf, askAdvanceStep, advanceMachine, appendedBytes, appendedLens}
 use Rattle.store.specs.declared.store.Store.{Store}
-use Rattle.store.specs.declared.calls.Step.the-variants as step
+use Rattle.calls.specs.declared.calls.Step.the-variants as step
 use Rattle.store.specs.Store.{store}
-use Rattle.store.specs.Lent.{Lent, Given, machineLent}
-use Rattle.store.specs.Steps.{askBoth, both}
-use Rattle.store.specs.Step.{withPending, addedLent, stepAnswerWith, stepLentWith, askPicture}
+use Rattle.store.specs.Lent.{Lent, machineLent, withPending}
+use Rattle.calls.specs.Given.{Given}
+use Rattle.store.specs.Steps.{askBoth, both, addedLent}
+use Rattle.calls.specs.Step.{stepAnswerWith, stepLentWith, askPicture}
 use Rattle.refine.specs.Machine.ReadyForm as form
 use Rattle.refine.specs.Machine.MachineEntries.{brought-view, brought-given, clauses-advance}
 use Rattle.refine.specs.Store.Seen.{seen, SizedStore}
@@ -53,7 +54,7 @@ module _ (g : Geometry) (l : Lent) (v : Given) (s : Store) (k : ℕ) where
   abbrev next : Store
   next = store (advanceMachine (s .machine) b (givenOf (v .brought) (v .sizes) k)) (s .disk)
 
-  lent-added : q ≡ 0 → addedLent l v s k q b ≡ after
+  lent-added : q ≡ 0 → addedLent l s (v .brought) (v .sizes) k q b ≡ after
   lent-added e = λ i. withPending l (unless-done q (l .bytes) (after .bytes) e i) (unless-done q (l .lens) (after .lens) e i)
 
   pub add-taken : (z : SizedStore s) → StoreForm g l s → form.Given (v .brought) (v .sizes) k → (t : Y.Variables) (dop : D.DiskOp)

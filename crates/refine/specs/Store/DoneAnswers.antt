@@ -18,9 +18,9 @@ use Rattle.machine.specs.Working.{askWriteBackSuperblockRespStep, writeBackSupe
 use Rattle.requests.specs.Slots as disk
 use Rattle.requests.specs.Laws.Pairs.{whichOf, which-in}
 use Rattle.store.specs.declared.store.Store.{Store}
-use Rattle.store.specs.declared.calls.Step.the-variants as step
+use Rattle.calls.specs.declared.calls.Step.the-variants as step
 use Rattle.store.specs.Lent.{Lent, machineLent}
-use Rattle.store.specs.Step.{stepAnswerWith, stepLentWith, askPicture}
+use Rattle.calls.specs.Step.{stepAnswerWith, stepLentWith, askPicture}
 use Rattle.refine.specs.Machine.ReadyView.{slotOf}
 use Rattle.refine.specs.Machine.MachineView.{operationOf}
 use Rattle.refine.specs.Machine.MachineCommitted.{superblock-resp-said, clauses-superblock-resp}

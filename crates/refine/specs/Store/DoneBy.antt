@@ -13,10 +13,12 @@ use Rattle.source.specs.Departures.{Event}
 use Rattle.history.specs.Statement.{Tied}
 use Rattle.store.specs.declared.store.Store.{Store}
 use Rattle.store.specs.declared.store.StoreStepped.{StoreStepped}
-use Rattle.store.specs.declared.calls.Step.{Step}
+use Rattle.store.specs.Whole.{asked}
+use Rattle.calls.specs.declared.calls.Step.{Step}
 use Rattle.store.specs.Store.{refused, accepted, answered}
-use Rattle.store.specs.Lent.{Lent, Given}
-use Rattle.store.specs.Step.{stepAnswer, stepLent, askPicture, askStep, stepped, steppedLent}
+use Rattle.store.specs.Lent.{Lent}
+use Rattle.calls.specs.Given.{Given}
+use Rattle.calls.specs.Step.{stepAnswer, stepLent, askPicture, askStep, stepped, steppedLent}
 use Rattle.store.specs.Laws.Answers.{asked-next}
 use Rattle.refine.specs.Store.Seen.{seen, SizedStore, callOf}
 use Rattle.refine.specs.Store.Done.{StoreForm, form-asks, TakenTo, Done}
@@ -24,7 +26,7 @@ use Rattle.refine.specs.Store.Done.{StoreForm, form-asks, TakenTo, Done}
 module _ (g : Geometry) (l : Lent) (s : Store) (z : SizedStore s) (f : StoreForm g l s) (m : SystemMeets g limits (seen g l s)) where
   module _ (t : Y.Variables) (x : Step) (v : Given) (op : DiskOp) (next : Store) (after : Lent) where
     pub taken-by : askPicture g (v .picture) (v .pictured) x ≡ 0 → stepAnswer g l v s x ≡ accepted op next → stepLent g l v s x ≡ after → seen g after next ≡ t → TakenTo g l v s x t
-    unfolding askStep stepped steppedLent
+    unfolding askStep stepped steppedLent asked
     taken-by p a b e =
         let q : askStep g l v s x ≡ 0 = andThen-both _ _ p (form-asks g l s z f m) in
         let r : stepped g l v s x ≡ accepted op next = asked-yes (askStep g l v s x) (stepAnswer g l v s x) (refused s (askStep g l v s x)) q ∙ a in

@@ -32,10 +32,12 @@ use Rattle.requests.specs.Laws.Pairs.{whichOf}
 use Rattle.store.specs.declared.store.Store.{Store}
 use Rattle.store.specs.declared.store.StoreAnswer.{StoreAnswer}
 use Rattle.store.specs.declared.store.StoreAnswer.the-variants as answer
-use Rattle.store.specs.declared.calls.Step.{Step}
-use Rattle.store.specs.declared.calls.Step.the-variants as step
-use Rattle.store.specs.Lent.{Lent, Given}
-use Rattle.store.specs.Step.{stepAnswerWith, stepLentWith, askPicture, askStep, stepped, steppedLent}
+use Rattle.store.specs.Whole.{asked}
+use Rattle.calls.specs.declared.calls.Step.{Step}
+use Rattle.calls.specs.declared.calls.Step.the-variants as step
+use Rattle.store.specs.Lent.{Lent}
+use Rattle.calls.specs.Given.{Given}
+use Rattle.calls.specs.Step.{stepAnswerWith, stepLentWith, askPicture, askStep, stepped, steppedLent}
 use Rattle.refine.specs.Machine.ReadyForm as form
 use Rattle.refine.specs.Machine.ReadyView.{slotOf}
 use Rattle.refine.specs.Store.Seen.{seen, SizedStore, named, entriesCall, callOf}
@@ -143,7 +145,7 @@ same-step v w x y p n e =
 module _ (g : Geometry) (l : Lent) (s : Store) where
   -- what such a step comes to doesn't depend on what is brought
   alike : (v w : Given) (x : Step) → brings x ≡ false → (stepped g l w s x ≡ stepped g l v s x) × (steppedLent g l w s x ≡ steppedLent g l v s x)
-  unfolding stepped steppedLent askStep askPicture stepAnswerWith stepLentWith
+  unfolding stepped steppedLent askStep askPicture stepAnswerWith stepLentWith asked
   alike v w (step.WriteBackJournalReq id1 id2) p = (refl, refl)
   alike v w (step.WriteBackJournalResp id) p = (refl, refl)
   alike v w (step.AdvanceLog id) p = (refl, refl)

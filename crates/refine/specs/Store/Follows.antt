@@ -23,10 +23,10 @@ use Rattle.history.specs.Calls.Called.{called-once}
 use Rattle.requests.specs.Laws.Pairs.{whichOf}
 use Rattle.store.specs.declared.store.StoreAnswer.{StoreAnswer}
 use Rattle.store.specs.declared.store.StoreAnswer.the-variants as answer
-use Rattle.store.specs.declared.calls.Step.{Step}
-use Rattle.store.specs.declared.calls.Step.the-variants as step
-use Rattle.store.specs.Lent.{given}
-use Rattle.store.specs.Step.{stepped, steppedLent}
+use Rattle.calls.specs.declared.calls.Step.{Step}
+use Rattle.calls.specs.declared.calls.Step.the-variants as step
+use Rattle.calls.specs.Given.{given}
+use Rattle.calls.specs.Step.{stepped, steppedLent}
 use Rattle.refine.specs.Machine.MachineEntries.{brought-view, brought-given}
 use Rattle.refine.specs.Store.Seen.{callOf}
 use Rattle.refine.specs.Store.Plain.{entries-is}

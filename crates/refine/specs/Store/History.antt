@@ -23,9 +23,10 @@ use Rattle.machine.specs.Machine.{byKind}
 use Rattle.store.specs.declared.store.Store.{Store}
 use Rattle.store.specs.declared.store.StoreAnswer.{StoreAnswer}
 use Rattle.store.specs.declared.store.StoreAnswer.the-variants as answer
-use Rattle.store.specs.declared.calls.Step.{Step}
-use Rattle.store.specs.Lent.{Lent, Given, machineLent}
-use Rattle.store.specs.Step.{stepped, steppedLent}
+use Rattle.calls.specs.declared.calls.Step.{Step}
+use Rattle.store.specs.Lent.{Lent, machineLent}
+use Rattle.calls.specs.Given.{Given}
+use Rattle.calls.specs.Step.{stepped, steppedLent}
 use Rattle.refine.specs.Machine.ReadyView.{readyOf, replayOf}
 use Rattle.refine.specs.Machine.MachineView.{readyLent, syncsOf, machineOf}
 use Rattle.refine.specs.Machine.MachineWork.{work-form}

@@ -10,10 +10,12 @@ use Rattle.journal.specs.Memory.{askJournal}
 use Rattle.crash.specs.Laws.Memory.{own-blocks, own-marks}
 use Rattle.machine.specs.Questions.{bodiesOf}
 use Rattle.store.specs.declared.store.Store.{Store}
-use Rattle.store.specs.declared.calls.Step.the-variants as step
-use Rattle.store.specs.Lent.{Lent, Given, askStore}
+use Rattle.store.specs.Whole.{asked}
+use Rattle.calls.specs.declared.calls.Step.the-variants as step
+use Rattle.store.specs.Lent.{Lent, askStore, withJournal}
+use Rattle.calls.specs.Given.{Given}
 use Rattle.store.specs.Store.{refused}
-use Rattle.store.specs.Step.{withJournal, stepAnswerWith, stepLentWith, askPicture, askStep, stepped, steppedLent}
+use Rattle.calls.specs.Step.{stepAnswerWith, stepLentWith, askPicture, askStep, stepped, steppedLent}
 
 -- a question asked twice
 asked-twice : (q r : ℕ) → andThen q (andThen q r) ≡ andThen q r
@@ -29,7 +31,7 @@ module _ (g : Geometry) (l : Lent) (v : Given) (s : Store) where
   own-asks = andThen-done 0 (askStore g l s) refl ∙ sym (asked-twice (askJournal g (l .blocks) (l .marks)) _)
 
   pub own-crash : stepped g l v s step.CrashInPlace ≡ stepped g l (ownPicture l v) s step.Crash
-  unfolding stepped stepAnswerWith
+  unfolding stepped stepAnswerWith asked
   own-crash = ap (λ (q : ℕ). cond (eqb q 0) (stepAnswerWith g l v s step.CrashInPlace (bodiesOf (l .lens) (s .machine))) (refused s q)) own-asks
 
   pub own-crash-lent : steppedLent g l v s step.CrashInPlace ≡ steppedLent g l (ownPicture l v) s step.Crash

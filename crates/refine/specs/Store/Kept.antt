@@ -19,13 +19,15 @@ use Rattle.disk.specs.Laws.Questions.{state-asked}
 use Rattle.store.specs.declared.store.Store.{Store}
 use Rattle.store.specs.declared.store.StoreAnswer.the-variants as answer
 use Rattle.store.specs.declared.store.StoreStepped.{StoreStepped}
-use Rattle.store.specs.declared.calls.Step.{Step}
-use Rattle.store.specs.declared.calls.Step.the-variants as step
+use Rattle.store.specs.Whole.{asked}
+use Rattle.calls.specs.declared.calls.Step.{Step}
+use Rattle.calls.specs.declared.calls.Step.the-variants as step
 use Rattle.store.specs.Store as S
 use Rattle.store.specs.Store.{store}
-use Rattle.store.specs.Lent.{Lent, Given, machineLent, askRest, askStore}
+use Rattle.store.specs.Lent.{Lent, machineLent, askRest, askStore}
+use Rattle.calls.specs.Given.{Given}
 use Rattle.store.specs.Steps.{askBoth, both, askWriteJournal, readOf}
-use Rattle.store.specs.Step.{stepAnswerWith, stepLentWith, askStep, stepped, steppedLent}
+use Rattle.calls.specs.Step.{stepAnswerWith, stepLentWith, askStep, stepped, steppedLent}
 use Rattle.store.specs.Laws.Answers.{asked-next, next-asked}
 use Rattle.refine.specs.Machine.MachineView.{SizedMachine, MachineLent, MachineForm}
 use Rattle.refine.specs.Store.Seen.{SizedStore, store-met}
@@ -165,7 +167,7 @@ module _ (g : Geometry) (l : Lent) (v : Given) (s : Store) (z : SizedStore s) (e
 module _ (g : Geometry) (l : Lent) (v : Given) (s : Store) (x : Step) (o : DiskOp) where
   pub taken-asked : stepped g l v s x .answer ≡ answer.Next o
       → (askStep g l v s x ≡ 0) × (stepped g l v s x ≡ stepAnswerWith g l v s x (bodiesOf (l .lens) (s .machine)))
-  unfolding stepped
+  unfolding stepped asked
   taken-asked h =
       ⊎-elim
       (λ y. (y .0, sym (y .1)))

@@ -31,11 +31,12 @@ use Rattle.machine.specs.Working.{leftOf, sentOf, sentStart, askAdvanceStep, gi
 use Rattle.machine.specs.Loading.{loadedBytes, askLoaded}
 use Rattle.requests.specs.Laws.Receive.{recv-write-journal-asked}
 use Rattle.store.specs.declared.store.Store.{Store}
-use Rattle.store.specs.declared.calls.Step.{Step}
-use Rattle.store.specs.declared.calls.Step.the-variants as step
-use Rattle.store.specs.Lent.{Lent, Given, machineLent, askStore}
-use Rattle.store.specs.Steps.{askBoth, askWriteJournal, askJournalRead, writtenInterval, readPieces}
-use Rattle.store.specs.Step.{writtenLent, finishedLent, addedLent, withPieces, withJournal, stepLentWith, askPicture, askStep, steppedLent}
+use Rattle.calls.specs.declared.calls.Step.{Step}
+use Rattle.calls.specs.declared.calls.Step.the-variants as step
+use Rattle.store.specs.Lent.{Lent, machineLent, askStore, withPieces, withJournal}
+use Rattle.calls.specs.Given.{Given}
+use Rattle.store.specs.Steps.{askBoth, askWriteJournal, askJournalRead, writtenInterval, readPieces, writtenLent, finishedLent, addedLent}
+use Rattle.calls.specs.Step.{stepLentWith, askPicture, askStep, steppedLent}
 use Rattle.refine.specs.Disk.View as disk
 use Rattle.refine.specs.Machine.MachineView.{MachineLent}
 
@@ -167,7 +168,7 @@ module _ (g : Geometry) (l : Lent) (v : Given) (s : Store) (m : Marks g (l .mark
         each = λ e. e;
       }
 
-  added-alike : (k q : ℕ) (b : Bodies) → Alike l (addedLent l v s k q b)
+  added-alike : (k q : ℕ) (b : Bodies) → Alike l (addedLent l s (v .brought) (v .sizes) k q b)
   added-alike k q b =
       record {
         bytes = unless-long q (l .bytes) _ (λ h. length-clipped (l .bytes) _ _);

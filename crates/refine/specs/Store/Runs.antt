@@ -15,7 +15,7 @@ use Rattle.history.specs.Whole.First.{firstParity}
 use Rattle.requests.specs.declared.slots.Slots.{Slots}
 use Rattle.store.specs.declared.store.Store.{Store}
 use Rattle.store.specs.Lent.{Lent, machineLent, askStore}
-use Rattle.store.specs.Step.{stepped}
+use Rattle.calls.specs.Step.{stepped}
 use Rattle.refine.specs.Disk.View as disk
 use Rattle.refine.specs.Machine.MachineView.{MachineLent}
 use Rattle.refine.specs.Store.Seen.{seen}

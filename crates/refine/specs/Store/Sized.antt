@@ -11,13 +11,15 @@ use Rattle.machine.specs.Questions.{bodiesOf}
 use Rattle.disk.specs.Operation.{operationNext}
 use Rattle.store.specs.declared.store.Store.{Store}
 use Rattle.store.specs.declared.store.StoreStepped.{StoreStepped}
-use Rattle.store.specs.declared.calls.Step.{Step}
-use Rattle.store.specs.declared.calls.Step.the-variants as step
+use Rattle.store.specs.Whole.{asked}
+use Rattle.calls.specs.declared.calls.Step.{Step}
+use Rattle.calls.specs.declared.calls.Step.the-variants as step
 use Rattle.store.specs.Store as S
 use Rattle.store.specs.Store.{store}
-use Rattle.store.specs.Lent.{Lent, Given}
+use Rattle.store.specs.Lent.{Lent}
+use Rattle.calls.specs.Given.{Given}
 use Rattle.store.specs.Steps.{askBoth, both, readOf, crashed}
-use Rattle.store.specs.Step.{stepAnswerWith, askStep, stepped}
+use Rattle.calls.specs.Step.{stepAnswerWith, askStep, stepped}
 use Rattle.refine.specs.Machine.MachineView.{SizedMachine}
 use Rattle.refine.specs.Machine.MachineInitial.{initial-sized}
 use Rattle.refine.specs.Store.Seen.{SizedStore}
@@ -67,7 +69,7 @@ module _ (g : Geometry) (l : Lent) (v : Given) (s : Store) (z : SizedStore s) wh
   answer-sized step.CrashInPlace b = crashed-sized s
 
   pub sized-step : (x : Step) → SizedStore (stepped g l v s x .store)
-  unfolding stepped
+  unfolding stepped asked
   sized-step x = go (eqb (askStep g l v s x) 0)
     where
       go : (t : Bool) → SizedStore (cond {A = StoreStepped} t (stepAnswerWith g l v s x (bodiesOf (l .lens) (s .machine))) (S.refused s (askStep g l v s x)) .store)

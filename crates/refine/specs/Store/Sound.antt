@@ -23,12 +23,14 @@ use Rattle.store.specs.declared.store.Store.{Store}
 use Rattle.store.specs.declared.store.StoreAnswer.{StoreAnswer}
 use Rattle.store.specs.declared.store.StoreAnswer.the-variants as answer
 use Rattle.store.specs.declared.store.StoreStepped.{StoreStepped}
-use Rattle.store.specs.declared.calls.Step.{Step}
-use Rattle.store.specs.declared.calls.Step.the-variants as step
+use Rattle.store.specs.Whole.{asked}
+use Rattle.calls.specs.declared.calls.Step.{Step}
+use Rattle.calls.specs.declared.calls.Step.the-variants as step
 use Rattle.store.specs.Store.{store, refused, answered}
-use Rattle.store.specs.Lent.{Lent, Given, askStore}
+use Rattle.store.specs.Lent.{Lent, askStore, withPending, withPieces, withReplay, withJournal}
+use Rattle.calls.specs.Given.{Given}
 use Rattle.store.specs.Steps as one
-use Rattle.store.specs.Step.{askPicture, askStep, stepAnswerWith, stepLentWith, stepAnswer, stepLent, stepped, steppedLent, withPending, withPieces, withReplay, withJournal}
+use Rattle.calls.specs.Step.{askPicture, askStep, stepAnswerWith, stepLentWith, stepAnswer, stepLent, stepped, steppedLent}
 use Rattle.store.specs.Laws.Answers.{refused-asked, refused-same}
 use Rattle.refine.specs.Store.Seen.{seen, SizedStore, callOf}
 use Rattle.refine.specs.Store.Always.{push-takes, pop-takes, no-op-takes, land-takes}
@@ -74,7 +76,7 @@ module _ (g : Geometry) (l : Lent) (v : Given) (s : Store) (z : SizedStore s) wh
   -- whole
   pub store-takes : (x : Step) (o : DiskOp) → stepped g l v s x .answer ≡ answer.Next o
       → Takes g format limits (seen g l s) (seen g (steppedLent g l v s x) (stepped g l v s x .store)) (callOf v x)
-  unfolding stepped steppedLent askStep
+  unfolding stepped steppedLent askStep asked
   store-takes x o h =
       split-eq asks 0
       (λ q.
@@ -156,7 +158,7 @@ module _ (g : Geometry) (l : Lent) (v : Given) (s : Store) (b : Bodies) where
 -- whole: store and lent memory are as they were
 pub store-refused : (g : Geometry) (l : Lent) (v : Given) (s : Store) (x : Step) (n : ℕ) → stepped g l v s x .answer ≡ answer.Refused n
     → (stepped g l v s x .store ≡ s) × (steppedLent g l v s x ≡ l)
-unfolding stepped steppedLent
+unfolding stepped steppedLent asked
 store-refused g l v s x n h =
     split-eq asks 0
     (λ q.

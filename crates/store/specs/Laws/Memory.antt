@@ -1,12 +1,11 @@
--- The steps that alter lent memory, the steps whose operation comes from the disk's own content, and the step over all calls. The code's proofs
--- cite them.
+-- The steps that alter lent memory, and the steps whose operation comes from the disk's own content. The code's proofs cite them.
 use Prim.Native.Nat.{ℕ}
 use mathlib.Core.Bool.{Bool, true, false, cond}
 use mathlib.Core.Path.{_≡_, refl, sym, _∙_, ap}
 use mathlib.Core.List.{List}
 use lib.Dec.{eqb}
 use lib.ListN.{take, drop}
-use Rattle.laws.specs.Choice.{andThen, andThen-first, andThen-done, unless, unless-kept, unless-done, asked-yes, asked-no}
+use Rattle.laws.specs.Choice.{unless, unless-kept, unless-done, asked-no}
 use Rattle.laws.specs.Splice.{splice}
 use Rattle.layout.specs.declared.geometry.Geometry.{Geometry}
 use Rattle.interval.specs.declared.interval.JournalInterval.{JournalInterval}
@@ -21,12 +20,8 @@ use Rattle.writer.specs.Ring.{putRange}
 use Rattle.loading.specs.declared.other.Paged.{Paged}
 use Rattle.ready.specs.declared.entries.Bodies.{Bodies}
 use Rattle.machine.specs.declared.machine.Machine.{Machine}
-use Rattle.machine.specs.declared.questions.Asked.{Asked}
-use Rattle.machine.specs.declared.questions.Asked.the-variants as asked
-use Rattle.machine.specs.Questions.{bodiesOf, found}
 use Rattle.machine.specs.Loading.{pagedIn, pageInJournalRespOp, pageInJournalRespMachine, askPageInSuperblockRespStep, pageInSuperblockRespOp, pageInSuperblockRespMachine}
 use Rattle.machine.specs.Working.{sentOf, leftOf, movedBytes, movedLens, writeBackJournalRespOp, writeBackJournalRespMachine, askWriteBackSuperblockRespStep, writeBackSuperblockRespOp, writeBackSuperblockRespMachine}
-use Rattle.machine.specs.Laws.Found.{refused-found, held-found}
 use Rattle.disk.specs.declared.disk.Disk.{Disk}
 use Rattle.disk.specs.declared.disk.DiskStepped.{DiskStepped}
 use Rattle.disk.specs.declared.disk.DiskAnswer.the-variants as disk
@@ -42,11 +37,8 @@ use Rattle.disk.specs.Laws.Answers.{done-asked, asked-done, refused-asked, aske
 use Rattle.store.specs.declared.store.Store.{Store}
 use Rattle.store.specs.declared.store.StoreAnswer.the-variants as answer
 use Rattle.store.specs.declared.store.StoreStepped.{StoreStepped}
-use Rattle.store.specs.declared.calls.Step.{Step}
 use Rattle.store.specs.Store.{store, refused, accepted, answered}
-use Rattle.store.specs.Lent.{Lent, lent, Given, askStore}
 use Rattle.store.specs.Steps.{both, askBoth, askWriteJournal, writeOp, writeJournal, writtenInterval, writtenBlocks, writtenMarks, intervalOf, journalWritten, superblockWritten, readOf, askJournalRead, journalRead, readPieces, contentOf, superblockRead, land}
-use Rattle.store.specs.Step.{askPicture, askStep, stepAnswerWith, stepLentWith, stepAnswer, stepLent, stepped, steppedLent}
 use Rattle.store.specs.Laws.Answers as answers
 
 -- lent memory after a step that has answered
@@ -100,6 +92,14 @@ module _ (g : Geometry) (s : Store) (id1 : ℕ) (id2 : MaybeId) (b : Bodies) (r 
           ),
         ),
       )
+
+-- what is written, by the interval of the operation
+pub range-at : (bytes lens : List ℕ) (n k : ℕ) (blocks z : List ℕ) (v w : JournalInterval) → v ≡ w → z ≡ putRange bytes lens n k blocks (v .start)
+    → z ≡ putRange bytes lens n k blocks (w .start)
+range-at bytes lens n k blocks z v w p e = e ∙ ap (λ (x : JournalInterval). putRange bytes lens n k blocks (x .start)) p
+
+pub marks-at : (marks z : List ℕ) (v w : JournalInterval) → v ≡ w → z ≡ updateMarks marks v → z ≡ updateMarks marks w
+marks-at marks z v w p e = e ∙ ap (updateMarks marks) p
 
 -- a journal read's answer
 module _ (g : Geometry) (s : Store) (id : ℕ) (whole : Bool) (marks : List ℕ) (e : JournalAcked)
@@ -168,49 +168,3 @@ module _ (s : Store) (which : ℕ) (e : DiskStepped) (he : e ≡ D.answered (ask
       let z = done-asked lands (landNext (s .disk) which) (s .disk) (sym (ap (λ (x : DiskStepped). x .answer) he) ∙ h) in
       answers.answered-is lands op.NoDiskOp _ (store (s .machine) (e .disk)) _ s z refl
       (ap (λ (x : DiskStepped). store (s .machine) (x .disk)) (he ∙ asked-done lands (landNext (s .disk) which) (s .disk) z))
-
--- the step over all calls, from its parts
-module _ (g : Geometry) (l : Lent) (v : Given) (s : Store) (x : Step) (k : ℕ) (hk : k ≡ askPicture g (v .picture) (v .pictured) x) where
-  abbrev asksAll : ℕ
-  asksAll = askStep g l v s x
-
-  no-step : (n : ℕ) → (asksAll ≡ 0 → ⊥) × (n ≡ asksAll) → (refused s n ≡ stepped g l v s x) × (l ≡ steppedLent g l v s x)
-  unfolding stepped steppedLent
-  no-step n f =
-      (ap (refused s) (f .1) ∙ sym (asked-no asksAll (stepAnswer g l v s x) (refused s asksAll) (f .0)), sym (unless-kept asksAll l (stepLent g l v s x) (f .0)))
-
-  pub picture-refused : (k ≡ 0 → ⊥) → (refused s k ≡ stepped g l v s x) × (l ≡ steppedLent g l v s x)
-  unfolding askStep
-  picture-refused h =
-      let f = andThen-first (askPicture g (v .picture) (v .pictured) x) (askStore g l s) (λ z. h (hk ∙ z)) in
-      no-step k ((λ z. h (hk ∙ sym f ∙ z)), hk ∙ sym f)
-
-  module _ (h : k ≡ 0) (a : Asked) (e : a ≡ found (askStore g l s) (bodiesOf (l .lens) (s .machine))) where
-    all-asked : asksAll ≡ askStore g l s
-    unfolding askStep
-    all-asked = andThen-done (askPicture g (v .picture) (v .pictured) x) (askStore g l s) (sym hk ∙ h)
-
-    pub state-refused : (n : ℕ) → a ≡ asked.Refused n → (refused s n ≡ stepped g l v s x) × (l ≡ steppedLent g l v s x)
-    state-refused n t =
-        let f = refused-found (askStore g l s) (bodiesOf (l .lens) (s .machine)) a e n t in
-        no-step n ((λ z. f .0 (sym all-asked ∙ z)), f .1 ∙ sym all-asked)
-
-    pub state-taken : (b : Bodies) (r : StoreStepped) (after : Lent) → a ≡ asked.Held b → r ≡ stepAnswerWith g l v s x b → after ≡ stepLentWith g l v s x b
-        → (r ≡ stepped g l v s x) × (after ≡ steppedLent g l v s x)
-    unfolding stepped steppedLent
-    state-taken b r after t hr ha =
-        let f = held-found (askStore g l s) (bodiesOf (l .lens) (s .machine)) a e b t in
-        let z : asksAll ≡ 0 = all-asked ∙ f .0 in (
-          hr ∙ ap (stepAnswerWith g l v s x) (f .1) ∙ sym (asked-yes asksAll (stepAnswer g l v s x) (refused s asksAll) z),
-          ha ∙ ap (stepLentWith g l v s x) (f .1) ∙ sym (unless-done asksAll l (stepLent g l v s x) z),
-        )
-
-    -- the same slice by slice, as the promises have it
-    pub step-taken : (b : Bodies) (r : StoreStepped) (bytes lens pieces rbytes rlens blocks marks : List ℕ) → a ≡ asked.Held b
-        → (r ≡ stepAnswerWith g l v s x b) × ((bytes ≡ stepLentWith g l v s x b .bytes) × ((lens ≡ stepLentWith g l v s x b .lens) × ((pieces ≡ stepLentWith g l v s x b .pieces) × ((rbytes ≡ stepLentWith g l v s x b .rbytes) × ((rlens ≡ stepLentWith g l v s x b .rlens) × ((blocks ≡ stepLentWith g l v s x b .blocks) × (marks ≡ stepLentWith g l v s x b .marks)))))))
-        → (r ≡ stepped g l v s x) × ((bytes ≡ steppedLent g l v s x .bytes) × ((lens ≡ steppedLent g l v s x .lens) × ((pieces ≡ steppedLent g l v s x .pieces) × ((rbytes ≡ steppedLent g l v s x .rbytes) × ((rlens ≡ steppedLent g l v s x .rlens) × ((blocks ≡ steppedLent g l v s x .blocks) × (marks ≡ steppedLent g l v s x .marks)))))))
-    step-taken b r bytes lens pieces rbytes rlens blocks marks t w =
-        let h =
-        state-taken b r (lent bytes lens pieces rbytes rlens blocks marks) t (w .0)
-        (λ i. lent (w .1 .0 i) (w .1 .1 .0 i) (w .1 .1 .1 .0 i) (w .1 .1 .1 .1 .0 i) (w .1 .1 .1 .1 .1 .0 i) (w .1 .1 .1 .1 .1 .1 .0 i) (w .1 .1 .1 .1 .1 .1 .1 i)) in
-        (h .0, (ap (λ (k : Lent). k .bytes) (h .1), (ap (λ (k : Lent). k .lens) (h .1), (ap (λ (k : Lent). k .pieces) (h .1), (ap (λ (k : Lent). k .rbytes) (h .1), (ap (λ (k : Lent). k .rlens) (h .1), (ap (λ (k : Lent). k .blocks) (h .1), ap (λ (k : Lent). k .marks) (h .1))))))))
