@@ -88,14 +88,14 @@ impl Store {
         };
         let d = self.disk;
         let e = d.decide_asked(g, op);
-        let b = e.answer;
-        let DiskAnswer::Done = b else {
-            let q = disk_refusal(b);
-            return self.refused(q);
-        };
         let machine = stepped.machine;
         let disk = e.disk;
         let next = Store { machine, disk };
+        let b = e.answer;
+        let DiskAnswer::Done = b else {
+            let p = disk_refusal(b);
+            return self.refused(p);
+        };
         next.accepted(op)
     }
 }

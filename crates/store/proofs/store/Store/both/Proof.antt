@@ -35,13 +35,13 @@ refused-requires-2 : tie.Need-refused-requires-2
 refused-requires-2 c κs = search needs
 
 returns-2 : tie.Need-returns-2
-returns-2 c = c .refused2 .ensures ∙ disk-no _ _ _ _ (c .before .before .before .before .before .before .before .a .given .1) _ (c .before .before .before .before .decide-asked .ensures) _ _ (c .before .before .enum-told3 .given .1) (c .before .disk-refusal .ensures)
+returns-2 c = c .refused2 .ensures ∙ disk-no _ _ _ _ (c .before .before .before .before .before .before .before .before .before .a .given .1) _ (c .before .before .before .before .before .before .decide-asked .ensures) _ _ (c .before .before .enum-told3 .given .1) (c .before .disk-refusal .ensures)
 
 accepted-requires : tie.Need-accepted-requires
 accepted-requires c κs = search needs
 
 returns-3 : tie.Need-returns-3
-returns-3 c = c .accepted .ensures ∙ disk-yes _ _ _ _ (c .before .before .before .before .before .before .before .before .a .given .1) _ (c .before .before .before .before .before .decide-asked .ensures) (c .before .before .before .enum-told2 .given .1)
+returns-3 c = c .accepted .ensures ∙ disk-yes _ _ _ _ (c .before .before .before .before .before .before .before .before .a .given .1) _ (c .before .before .before .before .before .decide-asked .ensures) (c .before .enum-told2 .given .1)
 
 pub both-spec : {M : Type 1} → statement M
 both-spec =
