@@ -26,11 +26,11 @@ use Rattle.machine.specs.Questions.{bodiesOf}
 use Rattle.machine.specs.Working.{givenOf, askAdvanceStep, advanceMachine, appendedBytes, appendedLens}
 use Rattle.store.specs.declared.store.Store.{Store}
 use Rattle.store.specs.declared.store.StoreAnswer.the-variants as answer
-use Rattle.calls.specs.declared.calls.Step.the-variants as step
 use Rattle.store.specs.Store.{store}
 use Rattle.store.specs.Lent.{Lent, machineLent, askStore, withPending}
-use Rattle.calls.specs.Given.{Given}
 use Rattle.store.specs.Steps.{askBoth, both, add, addedLent}
+use Rattle.calls.specs.declared.calls.Step.the-variants as step
+use Rattle.calls.specs.Given.{Given}
 use Rattle.refine.specs.Machine.ReadyForm as form
 use Rattle.refine.specs.Machine.MachineEntries.{asked-entries, advance-clauses}
 use Rattle.refine.specs.Store.Seen.{seen, SizedStore, store-met, callOf, entriesCall}

@@ -20,12 +20,12 @@ use Rattle.requests.specs.Laws.Landing.{land-asked}
 use Rattle.store.specs.declared.store.Store.{Store}
 use Rattle.store.specs.declared.store.StoreAnswer.the-variants as answer
 use Rattle.store.specs.declared.store.StoreStepped.{StoreStepped}
-use Rattle.calls.specs.declared.calls.Step.the-variants as step
 use Rattle.store.specs.Store.{store}
 use Rattle.store.specs.Lent.{Lent, machineLent, askStore}
-use Rattle.calls.specs.Given.{Given}
 use Rattle.store.specs.Steps.{pushSync, popSync, noOp, land}
 use Rattle.store.specs.Laws.Answers.{asked-next, next-asked}
+use Rattle.calls.specs.declared.calls.Step.the-variants as step
+use Rattle.calls.specs.Given.{Given}
 use Rattle.refine.specs.Disk.View.{diskOf}
 use Rattle.refine.specs.Disk.SuperblockWrites.{land-clauses}
 use Rattle.refine.specs.Machine.ReadyView.{slotOf}

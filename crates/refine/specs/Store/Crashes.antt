@@ -12,10 +12,10 @@ use Rattle.crash.specs.Picture.{crashedBlocks, crashedMarks}
 use Rattle.crash.specs.Whole.{crashedDisk}
 use Rattle.crash.specs.Laws.Memory.{own-blocks, own-marks}
 use Rattle.store.specs.declared.store.Store.{Store}
-use Rattle.calls.specs.declared.calls.Step.the-variants as step
 use Rattle.store.specs.Lent.{Lent, machineLent, askStore, withJournal}
-use Rattle.calls.specs.Given.{Given}
 use Rattle.store.specs.Steps.{crashed}
+use Rattle.calls.specs.declared.calls.Step.the-variants as step
+use Rattle.calls.specs.Given.{Given}
 use Rattle.refine.specs.Disk.View.{diskOf}
 use Rattle.refine.specs.Disk.Picture.{journal-lent}
 use Rattle.refine.specs.Disk.Crash.{crash-clauses}

@@ -23,13 +23,13 @@ use Rattle.machine.specs.declared.machine.Machine.{Machine}
 use Rattle.disk.specs.Operation.{askDecision, operationNext}
 use Rattle.requests.specs.Laws.Pairs.{whichOf, which-in, bit-which}
 use Rattle.store.specs.declared.store.Store.{Store}
-use Rattle.calls.specs.declared.calls.Step.{Step}
 use Rattle.store.specs.Store.{store}
 use Rattle.store.specs.Lent.{Lent, machineLent}
-use Rattle.calls.specs.Given.{Given}
 use Rattle.store.specs.Steps.{askBoth, both}
-use Rattle.calls.specs.Step.{stepAnswer, stepLent, askPicture}
 use Rattle.store.specs.Laws.Answers.{asked-next}
+use Rattle.calls.specs.declared.calls.Step.{Step}
+use Rattle.calls.specs.Given.{Given}
+use Rattle.calls.specs.Step.{stepAnswer, stepLent, askPicture}
 use Rattle.refine.specs.Machine.ReadyView.{slotOf}
 use Rattle.refine.specs.Machine.MachineView.{machineOf, operationOf}
 use Rattle.refine.specs.Machine.MachineEntries.{brought-view, brought-given}

@@ -11,8 +11,8 @@ use Rattle.source.specs.Departures.{Event}
 use Rattle.history.specs.Statement.{Tied}
 use Rattle.store.specs.declared.store.Store.{Store}
 use Rattle.store.specs.declared.store.StoreAnswer.the-variants as answer
-use Rattle.calls.specs.declared.calls.Step.{Step}
 use Rattle.store.specs.Lent.{Lent, machineLent, askStore}
+use Rattle.calls.specs.declared.calls.Step.{Step}
 use Rattle.calls.specs.Given.{Given}
 use Rattle.calls.specs.Step.{stepped, steppedLent}
 use Rattle.refine.specs.Disk.View as disk

@@ -18,11 +18,11 @@ use Rattle.requests.specs.Landing.{askLand}
 use Rattle.disk.specs.Next.{landNext}
 use Rattle.requests.specs.Laws.Pairs.{whichOf, which-in, bit-which}
 use Rattle.store.specs.declared.store.Store.{Store}
-use Rattle.calls.specs.declared.calls.Step.the-variants as step
 use Rattle.store.specs.Store.{store}
 use Rattle.store.specs.Lent.{Lent, machineLent}
-use Rattle.calls.specs.Step.{stepAnswerWith, stepLentWith, askPicture}
 use Rattle.store.specs.Laws.Answers.{asked-next}
+use Rattle.calls.specs.declared.calls.Step.the-variants as step
+use Rattle.calls.specs.Step.{stepAnswerWith, stepLentWith, askPicture}
 use Rattle.refine.specs.Disk.SuperblockWrites.{clauses-land}
 use Rattle.refine.specs.Machine.MachineSync.{clauses-push, clauses-pop}
 use Rattle.refine.specs.Store.Seen.{seen, SizedStore}

@@ -18,8 +18,8 @@ use Rattle.machine.specs.Working.{askWriteBackSuperblockRespStep, writeBackSupe
 use Rattle.requests.specs.Slots as disk
 use Rattle.requests.specs.Laws.Pairs.{whichOf, which-in}
 use Rattle.store.specs.declared.store.Store.{Store}
-use Rattle.calls.specs.declared.calls.Step.the-variants as step
 use Rattle.store.specs.Lent.{Lent, machineLent}
+use Rattle.calls.specs.declared.calls.Step.the-variants as step
 use Rattle.calls.specs.Step.{stepAnswerWith, stepLentWith, askPicture}
 use Rattle.refine.specs.Machine.ReadyView.{slotOf}
 use Rattle.refine.specs.Machine.MachineView.{operationOf}

@@ -14,12 +14,12 @@ use Rattle.history.specs.Statement.{Tied}
 use Rattle.store.specs.declared.store.Store.{Store}
 use Rattle.store.specs.declared.store.StoreStepped.{StoreStepped}
 use Rattle.store.specs.Whole.{asked}
-use Rattle.calls.specs.declared.calls.Step.{Step}
 use Rattle.store.specs.Store.{refused, accepted, answered}
 use Rattle.store.specs.Lent.{Lent}
+use Rattle.store.specs.Laws.Answers.{asked-next}
+use Rattle.calls.specs.declared.calls.Step.{Step}
 use Rattle.calls.specs.Given.{Given}
 use Rattle.calls.specs.Step.{stepAnswer, stepLent, askPicture, askStep, stepped, steppedLent}
-use Rattle.store.specs.Laws.Answers.{asked-next}
 use Rattle.refine.specs.Store.Seen.{seen, SizedStore, callOf}
 use Rattle.refine.specs.Store.Done.{StoreForm, form-asks, TakenTo, Done}
 

@@ -16,10 +16,10 @@ use Rattle.source.specs.Within.{Within}
 use Rattle.history.specs.Statement.{tied-crash}
 use Rattle.crash.specs.Picture.{crashedBlocks, crashedMarks}
 use Rattle.store.specs.declared.store.Store.{Store}
-use Rattle.calls.specs.declared.calls.Step.the-variants as step
 use Rattle.store.specs.Lent.{Lent, machineLent, withJournal}
-use Rattle.calls.specs.Given.{Given, given}
 use Rattle.store.specs.Steps.{crashed}
+use Rattle.calls.specs.declared.calls.Step.the-variants as step
+use Rattle.calls.specs.Given.{Given, given}
 use Rattle.calls.specs.Step.{stepAnswerWith, stepLentWith, askPicture}
 use Rattle.refine.specs.Disk.Crash.{crash-one}
 use Rattle.refine.specs.Disk.Picture.{journal-lent, pictureBytes, pictureMarks, picture-lent, picture-cells}

@@ -16,11 +16,11 @@ use Rattle.history.specs.Ledger as ledger
 use Rattle.history.specs.Statement.{Tied, tied-finish-other}
 use Rattle.machine.specs.Loading.{askLoaded, finishLoadingOtherPhaseMachine, loadedReplayBytes, loadedReplayLens}
 use Rattle.store.specs.declared.store.Store.{Store}
-use Rattle.calls.specs.declared.calls.Step.the-variants as step
 use Rattle.store.specs.Store.{store}
 use Rattle.store.specs.Lent.{Lent, machineLent, withReplay}
-use Rattle.calls.specs.Given.{given}
 use Rattle.store.specs.Steps.{askBoth, both, finishedLent}
+use Rattle.calls.specs.declared.calls.Step.the-variants as step
+use Rattle.calls.specs.Given.{given}
 use Rattle.calls.specs.Step.{stepAnswerWith, stepLentWith, askPicture}
 use Rattle.refine.specs.Machine.MachineMeets.{machine-kind-ok}
 use Rattle.refine.specs.Machine.MachineFinish.{clauses-finish-loading-other-phase}

@@ -26,9 +26,9 @@ use Rattle.requests.specs.Acknowledge.{readFrom}
 use Rattle.requests.specs.Laws.Pairs.{bitOf, whichOf, which-in, bit-which}
 use Rattle.requests.specs.Laws.Acknowledge.{read-whole, read-damaged}
 use Rattle.store.specs.declared.store.Store.{Store}
-use Rattle.calls.specs.declared.calls.Step.the-variants as step
 use Rattle.store.specs.Lent.{Lent, machineLent}
 use Rattle.store.specs.Steps.{contentOf}
+use Rattle.calls.specs.declared.calls.Step.the-variants as step
 use Rattle.calls.specs.Step.{stepAnswerWith, stepLentWith, askPicture}
 use Rattle.refine.specs.Disk.SuperblockReads.{holds-of}
 use Rattle.refine.specs.Machine.LoadingView.{superblockIn}

@@ -34,11 +34,11 @@ use Rattle.disk.specs.Next.{ackReadJournalNext}
 use Rattle.disk.specs.Memory.{readOut}
 use Rattle.requests.specs.Laws.Acknowledge.{held-is}
 use Rattle.store.specs.declared.store.Store.{Store}
-use Rattle.calls.specs.declared.calls.Step.the-variants as step
 use Rattle.store.specs.Store.{store}
 use Rattle.store.specs.Lent.{Lent, machineLent, withPieces}
-use Rattle.calls.specs.Given.{given}
 use Rattle.store.specs.Steps.{readOf, askJournalRead, readPieces}
+use Rattle.calls.specs.declared.calls.Step.the-variants as step
+use Rattle.calls.specs.Given.{given}
 use Rattle.calls.specs.Step.{stepAnswerWith, stepLentWith, askPicture}
 use Rattle.refine.specs.Disk.JournalReads.{journal-answered, clauses-read, content-read}
 use Rattle.refine.specs.Machine.LoadingView.{blocksIn}

@@ -26,8 +26,8 @@ use Rattle.history.specs.Ledger as ledger
 use Rattle.history.specs.Statement.{Tied}
 use Rattle.machine.specs.Working.{writeBackJournalRespOp, writeBackJournalRespMachine, askAdvanceLogStep, advanceLogOp, advanceLogMachine, askAdvanceLocationStep, advanceLocationOp, advanceLocationMachine, askFreezeStep, freezeMachine, askReceiveFrozenLocStep, receiveFrozenLocMachine, askReplayStep, replayMachine}
 use Rattle.store.specs.declared.store.Store.{Store}
-use Rattle.calls.specs.declared.calls.Step.the-variants as step
 use Rattle.store.specs.Lent.{Lent, machineLent}
+use Rattle.calls.specs.declared.calls.Step.the-variants as step
 use Rattle.calls.specs.Given.{Given}
 use Rattle.calls.specs.Step.{stepAnswerWith, stepLentWith, askPicture}
 use Rattle.refine.specs.Machine.ReadyForm as form

@@ -25,10 +25,10 @@ use Rattle.machine.specs.Working.{askWriteBackJournalReqStep}
 use Rattle.requests.specs.Receive.{askRecvWriteJournal}
 use Rattle.disk.specs.Laws.Memory.{new-blocks-rows}
 use Rattle.store.specs.declared.store.Store.{Store}
-use Rattle.calls.specs.declared.calls.Step.the-variants as step
 use Rattle.store.specs.Lent.{Lent, machineLent}
-use Rattle.calls.specs.Given.{Given, given}
 use Rattle.store.specs.Steps.{askBoth, both, writeOp, askWriteJournal, writtenInterval}
+use Rattle.calls.specs.declared.calls.Step.the-variants as step
+use Rattle.calls.specs.Given.{Given, given}
 use Rattle.calls.specs.Step.{stepAnswerWith, stepLentWith, askPicture}
 use Rattle.refine.specs.Disk.JournalWrites as disk
 use Rattle.refine.specs.Machine.ReadyView.{idOf}

@@ -33,9 +33,9 @@ use Rattle.store.specs.declared.store.Store.{Store}
 use Rattle.store.specs.declared.store.StoreAnswer.{StoreAnswer}
 use Rattle.store.specs.declared.store.StoreAnswer.the-variants as answer
 use Rattle.store.specs.Whole.{asked}
+use Rattle.store.specs.Lent.{Lent}
 use Rattle.calls.specs.declared.calls.Step.{Step}
 use Rattle.calls.specs.declared.calls.Step.the-variants as step
-use Rattle.store.specs.Lent.{Lent}
 use Rattle.calls.specs.Given.{Given}
 use Rattle.calls.specs.Step.{stepAnswerWith, stepLentWith, askPicture, askStep, stepped, steppedLent}
 use Rattle.refine.specs.Machine.ReadyForm as form

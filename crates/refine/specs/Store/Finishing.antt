@@ -14,11 +14,11 @@ use Rattle.history.specs.Statement.{Takes, tied-finish-other}
 use Rattle.machine.specs.Loading.{askLoaded, finishLoadingOtherPhaseMachine, loadedReplayBytes, loadedReplayLens}
 use Rattle.store.specs.declared.store.Store.{Store}
 use Rattle.store.specs.declared.store.StoreAnswer.the-variants as answer
-use Rattle.calls.specs.declared.calls.Step.the-variants as step
 use Rattle.store.specs.Store.{store}
 use Rattle.store.specs.Lent.{Lent, machineLent, askStore, withReplay}
-use Rattle.calls.specs.Given.{Given}
 use Rattle.store.specs.Steps.{askBoth, both, finishOther, finishedLent}
+use Rattle.calls.specs.declared.calls.Step.the-variants as step
+use Rattle.calls.specs.Given.{Given}
 use Rattle.refine.specs.Machine.MachineFinish.{finish-loading-other-phase-clauses}
 use Rattle.refine.specs.Store.Seen.{seen, SizedStore, store-met, callOf}
 use Rattle.refine.specs.Store.Taken.{machine-asked, answered-takes, machine-takes}

@@ -23,8 +23,8 @@ use Rattle.machine.specs.Machine.{byKind}
 use Rattle.store.specs.declared.store.Store.{Store}
 use Rattle.store.specs.declared.store.StoreAnswer.{StoreAnswer}
 use Rattle.store.specs.declared.store.StoreAnswer.the-variants as answer
-use Rattle.calls.specs.declared.calls.Step.{Step}
 use Rattle.store.specs.Lent.{Lent, machineLent}
+use Rattle.calls.specs.declared.calls.Step.{Step}
 use Rattle.calls.specs.Given.{Given}
 use Rattle.calls.specs.Step.{stepped, steppedLent}
 use Rattle.refine.specs.Machine.ReadyView.{readyOf, replayOf}

@@ -20,15 +20,15 @@ use Rattle.store.specs.declared.store.Store.{Store}
 use Rattle.store.specs.declared.store.StoreAnswer.the-variants as answer
 use Rattle.store.specs.declared.store.StoreStepped.{StoreStepped}
 use Rattle.store.specs.Whole.{asked}
-use Rattle.calls.specs.declared.calls.Step.{Step}
-use Rattle.calls.specs.declared.calls.Step.the-variants as step
 use Rattle.store.specs.Store as S
 use Rattle.store.specs.Store.{store}
 use Rattle.store.specs.Lent.{Lent, machineLent, askRest, askStore}
-use Rattle.calls.specs.Given.{Given}
 use Rattle.store.specs.Steps.{askBoth, both, askWriteJournal, readOf}
-use Rattle.calls.specs.Step.{stepAnswerWith, stepLentWith, askStep, stepped, steppedLent}
 use Rattle.store.specs.Laws.Answers.{asked-next, next-asked}
+use Rattle.calls.specs.declared.calls.Step.{Step}
+use Rattle.calls.specs.declared.calls.Step.the-variants as step
+use Rattle.calls.specs.Given.{Given}
+use Rattle.calls.specs.Step.{stepAnswerWith, stepLentWith, askStep, stepped, steppedLent}
 use Rattle.refine.specs.Machine.MachineView.{SizedMachine, MachineLent, MachineForm}
 use Rattle.refine.specs.Store.Seen.{SizedStore, store-met}
 use Rattle.refine.specs.Store.Done.{StoreForm}

@@ -31,11 +31,11 @@ use Rattle.machine.specs.Working.{leftOf, sentOf, sentStart, askAdvanceStep, gi
 use Rattle.machine.specs.Loading.{loadedBytes, askLoaded}
 use Rattle.requests.specs.Laws.Receive.{recv-write-journal-asked}
 use Rattle.store.specs.declared.store.Store.{Store}
+use Rattle.store.specs.Lent.{Lent, machineLent, askStore, withPieces, withJournal}
+use Rattle.store.specs.Steps.{askBoth, askWriteJournal, askJournalRead, writtenInterval, readPieces, writtenLent, finishedLent, addedLent}
 use Rattle.calls.specs.declared.calls.Step.{Step}
 use Rattle.calls.specs.declared.calls.Step.the-variants as step
-use Rattle.store.specs.Lent.{Lent, machineLent, askStore, withPieces, withJournal}
 use Rattle.calls.specs.Given.{Given}
-use Rattle.store.specs.Steps.{askBoth, askWriteJournal, askJournalRead, writtenInterval, readPieces, writtenLent, finishedLent, addedLent}
 use Rattle.calls.specs.Step.{stepLentWith, askPicture, askStep, steppedLent}
 use Rattle.refine.specs.Disk.View as disk
 use Rattle.refine.specs.Machine.MachineView.{MachineLent}

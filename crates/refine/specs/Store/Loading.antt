@@ -31,10 +31,10 @@ use Rattle.requests.specs.Laws.Receive.{recv-read-superblock-asked}
 use Rattle.requests.specs.Laws.Acknowledge.{read-whole, read-damaged}
 use Rattle.store.specs.declared.store.Store.{Store}
 use Rattle.store.specs.declared.store.StoreAnswer.the-variants as answer
-use Rattle.calls.specs.declared.calls.Step.the-variants as step
 use Rattle.store.specs.Lent.{Lent, machineLent, askStore}
-use Rattle.calls.specs.Given.{Given}
 use Rattle.store.specs.Steps.{readJournal, readSuperblock, contentOf, superblockRead, finishSuperblocks, askAgain}
+use Rattle.calls.specs.declared.calls.Step.the-variants as step
+use Rattle.calls.specs.Given.{Given}
 use Rattle.refine.specs.Disk.View.{diskOf}
 use Rattle.refine.specs.Disk.SuperblockReads.{holds-of}
 use Rattle.refine.specs.Machine.LoadingView.{superblockIn}

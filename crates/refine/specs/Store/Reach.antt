@@ -32,13 +32,13 @@ use Rattle.requests.specs.declared.slots.Slots.{Slots}
 use Rattle.store.specs.declared.store.Store.{Store}
 use Rattle.store.specs.declared.store.StoreAnswer.the-variants as answer
 use Rattle.store.specs.declared.store.StoreStepped.{StoreStepped}
+use Rattle.store.specs.Lent.{Lent, machineLent, askStore}
+use Rattle.store.specs.Steps.{askBoth, both}
+use Rattle.store.specs.Laws.Answers.{next-asked}
 use Rattle.calls.specs.declared.calls.Step.{Step}
 use Rattle.calls.specs.declared.calls.Step.the-variants as step
-use Rattle.store.specs.Lent.{Lent, machineLent, askStore}
 use Rattle.calls.specs.Given.{Given}
-use Rattle.store.specs.Steps.{askBoth, both}
 use Rattle.calls.specs.Step.{stepAnswerWith, stepped, steppedLent}
-use Rattle.store.specs.Laws.Answers.{next-asked}
 use Rattle.refine.specs.Disk.View as disk
 use Rattle.refine.specs.Machine.ReadyForm.{each-fit}
 use Rattle.refine.specs.Machine.MachineView.{MachineLent}

@@ -42,11 +42,11 @@ use Rattle.requests.specs.Laws.Acknowledge.{held-is, ack-read-journal-waiting}
 use Rattle.disk.specs.Laws.Memory.{out-whole}
 use Rattle.store.specs.declared.store.Store.{Store}
 use Rattle.store.specs.declared.store.StoreAnswer.the-variants as answer
-use Rattle.calls.specs.declared.calls.Step.the-variants as step
 use Rattle.store.specs.Store.{store}
 use Rattle.store.specs.Lent.{Lent, machineLent, askStore, withPieces}
-use Rattle.calls.specs.Given.{Given}
 use Rattle.store.specs.Steps.{readOf, askJournalRead, journalRead, copiedPieces, readPieces}
+use Rattle.calls.specs.declared.calls.Step.the-variants as step
+use Rattle.calls.specs.Given.{Given}
 use Rattle.refine.specs.Disk.JournalReads.{waiting-some, read-clauses}
 use Rattle.refine.specs.Machine.LoadingView.{blocksIn}
 use Rattle.refine.specs.Machine.LoadingPaged.{asked-piece, blocks-all}

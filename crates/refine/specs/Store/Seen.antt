@@ -16,9 +16,9 @@ use Rattle.history.specs.Ledger as ledger
 use Rattle.history.specs.Ledger.{Call}
 use Rattle.disk.specs.Questions.{askDisk}
 use Rattle.store.specs.declared.store.Store.{Store}
+use Rattle.store.specs.Lent.{Lent, machineLent, askStore, askRest}
 use Rattle.calls.specs.declared.calls.Step.{Step}
 use Rattle.calls.specs.declared.calls.Step.the-variants as step
-use Rattle.store.specs.Lent.{Lent, machineLent, askStore, askRest}
 use Rattle.calls.specs.Given.{Given}
 use Rattle.refine.specs.Disk.View.{SizedDisk}
 use Rattle.refine.specs.Disk.Meets.{Met, disk-met, met-disk}

@@ -12,13 +12,13 @@ use Rattle.disk.specs.Operation.{operationNext}
 use Rattle.store.specs.declared.store.Store.{Store}
 use Rattle.store.specs.declared.store.StoreStepped.{StoreStepped}
 use Rattle.store.specs.Whole.{asked}
-use Rattle.calls.specs.declared.calls.Step.{Step}
-use Rattle.calls.specs.declared.calls.Step.the-variants as step
 use Rattle.store.specs.Store as S
 use Rattle.store.specs.Store.{store}
 use Rattle.store.specs.Lent.{Lent}
-use Rattle.calls.specs.Given.{Given}
 use Rattle.store.specs.Steps.{askBoth, both, readOf, crashed}
+use Rattle.calls.specs.declared.calls.Step.{Step}
+use Rattle.calls.specs.declared.calls.Step.the-variants as step
+use Rattle.calls.specs.Given.{Given}
 use Rattle.calls.specs.Step.{stepAnswerWith, askStep, stepped}
 use Rattle.refine.specs.Machine.MachineView.{SizedMachine}
 use Rattle.refine.specs.Machine.MachineInitial.{initial-sized}

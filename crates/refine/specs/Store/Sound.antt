@@ -24,14 +24,14 @@ use Rattle.store.specs.declared.store.StoreAnswer.{StoreAnswer}
 use Rattle.store.specs.declared.store.StoreAnswer.the-variants as answer
 use Rattle.store.specs.declared.store.StoreStepped.{StoreStepped}
 use Rattle.store.specs.Whole.{asked}
-use Rattle.calls.specs.declared.calls.Step.{Step}
-use Rattle.calls.specs.declared.calls.Step.the-variants as step
 use Rattle.store.specs.Store.{store, refused, answered}
 use Rattle.store.specs.Lent.{Lent, askStore, withPending, withPieces, withReplay, withJournal}
-use Rattle.calls.specs.Given.{Given}
 use Rattle.store.specs.Steps as one
-use Rattle.calls.specs.Step.{askPicture, askStep, stepAnswerWith, stepLentWith, stepAnswer, stepLent, stepped, steppedLent}
 use Rattle.store.specs.Laws.Answers.{refused-asked, refused-same}
+use Rattle.calls.specs.declared.calls.Step.{Step}
+use Rattle.calls.specs.declared.calls.Step.the-variants as step
+use Rattle.calls.specs.Given.{Given}
+use Rattle.calls.specs.Step.{askPicture, askStep, stepAnswerWith, stepLentWith, stepAnswer, stepLent, stepped, steppedLent}
 use Rattle.refine.specs.Store.Seen.{seen, SizedStore, callOf}
 use Rattle.refine.specs.Store.Always.{push-takes, pop-takes, no-op-takes, land-takes}
 use Rattle.refine.specs.Store.Loading.{read-journal-takes, read-superblock-takes, superblock-read-takes, finish-superblocks-takes, ask-again-takes}

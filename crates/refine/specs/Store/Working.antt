@@ -23,10 +23,10 @@ use Rattle.machine.specs.Working.{writeBackJournalRespOp, writeBackJournalRespM
 use Rattle.requests.specs.Slots.{slotOf}
 use Rattle.store.specs.declared.store.Store.{Store}
 use Rattle.store.specs.declared.store.StoreAnswer.the-variants as answer
-use Rattle.calls.specs.declared.calls.Step.the-variants as step
 use Rattle.store.specs.Lent.{Lent, machineLent, askStore}
-use Rattle.calls.specs.Given.{Given}
 use Rattle.store.specs.Steps.{journalWritten, commitLog, commitLocation, superblockWritten, freeze, receive, replay}
+use Rattle.calls.specs.declared.calls.Step.the-variants as step
+use Rattle.calls.specs.Given.{Given}
 use Rattle.refine.specs.Machine.ReadyForm as R
 use Rattle.refine.specs.Machine.MachineEntries.{asked-entries}
 use Rattle.refine.specs.Machine.MachineWritten.{journal-resp-clauses}

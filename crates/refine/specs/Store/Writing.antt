@@ -38,11 +38,11 @@ use Rattle.requests.specs.Laws.Receive.{recv-write-journal-asked}
 use Rattle.disk.specs.Laws.Memory.{asks-new-blocks}
 use Rattle.store.specs.declared.store.Store.{Store}
 use Rattle.store.specs.declared.store.StoreAnswer.the-variants as answer
-use Rattle.calls.specs.declared.calls.Step.the-variants as step
 use Rattle.store.specs.Store.{store}
 use Rattle.store.specs.Lent.{Lent, machineLent, askStore, withPending, withJournal}
-use Rattle.calls.specs.Given.{Given}
 use Rattle.store.specs.Steps.{askBoth, both, writeOp, askWriteJournal, writeJournal, writtenInterval, writtenBlocks, writtenMarks, writtenLent}
+use Rattle.calls.specs.declared.calls.Step.the-variants as step
+use Rattle.calls.specs.Given.{Given}
 use Rattle.refine.specs.Disk.View.{diskOf}
 use Rattle.refine.specs.Disk.JournalWrites as disk
 use Rattle.refine.specs.Disk.JournalWrites.{idIn}
