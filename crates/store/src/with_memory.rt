@@ -10,13 +10,12 @@ use journal::copy_blocks;
 use journal::set_marks;
 use layout::Geometry;
 use machine::Machine;
+use machine::send_range;
 use memory::Count;
-use memory::move_front;
 use ready::Bodies;
 use superblock::DiskOp;
 use superblock::JournalRead;
 use superblock::MaybeId;
-use writer::put_range;
 ghost use mathlib.Core.Path.{_≡_};
 ghost use lib.ListN.{take, drop};
 ghost use Rattle.laws.specs.Choice.{unless};
@@ -89,9 +88,8 @@ fn write_range(
     ensures { λ _. ⌜ now (marks .exit) ≡ updateMarks (now (marks .entry)) (intervalOf op) ⌝ }
 {
     let v = interval_of(op);
-    put_range(bytes, lens, sent.entries, sent.bytes, blocks, v.start);
+    send_range(bytes, lens, sent, left, blocks, v.start);
     set_marks(v, marks);
-    move_front(bytes, lens, sent, left);
 }
 
 impl Store {

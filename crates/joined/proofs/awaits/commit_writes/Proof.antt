@@ -16,7 +16,7 @@ put-requires c κs = search needs
 
 returns : tie.Need-returns
 unfolding commitWrites
-returns c = c .put .ensures ∙ (λ i. putWrite (c .before .no-writes .ensures i) _ (c .before .before .commit-write .ensures i))
+returns c = c .put .ensures ∙ (λ i. putWrite (c .before .no-writes .ensures i) (c .before .before .before .args .slot) (c .before .before .commit-write .ensures i))
 
 pub commit-writes-spec : {M : Type 1} → statement M
 commit-writes-spec = tie.close (tie.spec commit-write-requires no-writes-requires put-requires returns)
