@@ -1,4 +1,4 @@
--- What a step sends tells the number of its questions, and what it is made of.
+-- What a commit sends tells the number of its questions, and what it is made of.
 use Prim.Native.Nat.{ℕ}
 use mathlib.Core.Bool.{Bool, true, false, cond}
 use mathlib.Core.Path.{_≡_, refl, sym, _∙_, ap}
@@ -11,40 +11,21 @@ use Rattle.superblock.specs.declared.superblock.Superblock.{Superblock}
 use Rattle.ready.specs.declared.frozen.MaybeLocation.{MaybeLocation}
 use Rattle.ready.specs.declared.frozen.MaybeLocation.the-variants.{NoLocation, Received}
 use Rattle.ready.specs.declared.ready.Ready.{Ready}
-use Rattle.ready.specs.declared.journal_steps.JournalWrite.{JournalWrite}
-use Rattle.ready.specs.declared.journal_steps.JournalWrite.the-variants as write
 use Rattle.ready.specs.declared.commit_steps.NewSuperblock.{NewSuperblock}
 use Rattle.ready.specs.declared.commit_steps.NewSuperblock.the-variants as new
 use Rattle.ready.specs.State.{isReceived}
-use Rattle.ready.specs.JournalSteps.{journalWrite}
 use Rattle.ready.specs.CommitSteps.{newSuperblock, askAdvanceLocation, advancedLocation, toLocation, advanceLocation}
-
--- a range: its first block, its blocks, and the blocks that are written then
-module _ (q start blocks written : ℕ) (w : JournalWrite) (e : w ≡ journalWrite q start blocks written) where
-  pub range-refused : (n : ℕ) → w ≡ write.Refused n → (q ≡ 0 → ⊥) × (n ≡ q)
-  range-refused n h =
-      ⊎-elim
-      (λ y. let p = y .1 in ruin (cc))
-      (λ x. let p = x .1 in (x .0, cc))
-      (asked-either q (write.Range start blocks written) (write.Refused q) w (sym e))
-
-  pub range-sent : (s b k : ℕ) → w ≡ write.Range s b k → (q ≡ 0) × (s ≡ start) × (b ≡ blocks) × (k ≡ written)
-  range-sent s b k h =
-      ⊎-elim
-      (λ y. let p = y .1 in (y .0, cc, cc, cc))
-      (λ x. let p = x .1 in ruin (cc))
-      (asked-either q (write.Range start blocks written) (write.Refused q) w (sym e))
 
 -- a commit's superblock
 module _ (q : ℕ) (superblock : Superblock) (w : NewSuperblock) (e : w ≡ newSuperblock q superblock) where
-  pub new-refused : (n : ℕ) → w ≡ new.Refused n → (q ≡ 0 → ⊥) × (n ≡ q)
+  new-refused : (n : ℕ) → w ≡ new.Refused n → (q ≡ 0 → ⊥) × (n ≡ q)
   new-refused n h =
       ⊎-elim
       (λ y. let p = y .1 in ruin (cc))
       (λ x. let p = x .1 in (x .0, cc))
       (asked-either q (new.Is superblock) (new.Refused q) w (sym e))
 
-  pub new-sent : (s : Superblock) → w ≡ new.Is s → (q ≡ 0) × (s ≡ superblock)
+  new-sent : (s : Superblock) → w ≡ new.Is s → (q ≡ 0) × (s ≡ superblock)
   new-sent s h =
       ⊎-elim
       (λ y. let p = y .1 in (y .0, cc))
