@@ -181,9 +181,9 @@ pub fn receive_frozen_loc(
 pub fn advance(
     s: Store,
     g: Geometry,
-    k: u64,
     brought: &[u8],
     sizes: &[u16],
+    k: u64,
     bytes: &mut [u8],
     lens: &mut [u16],
     pieces: &[u8],
@@ -207,9 +207,9 @@ pub fn advance(
 pub fn replay(
     s: Store,
     g: Geometry,
-    k: u64,
     brought: &[u8],
     sizes: &[u16],
+    k: u64,
     bytes: &[u8],
     lens: &[u16],
     pieces: &[u8],
