@@ -13,8 +13,8 @@ use Rattle.laws.specs.Fold.{sum, sum-replicate}
 use Rattle.laws.specs.Cut.{flat, lengths, length-lengths, length-flat}
 use Rattle.laws.specs.Sets.{none-some}
 use Rattle.laws.specs.Ring.{wrap, off}
-use Rattle.layout.specs.declared.geometry.Geometry.{Geometry}
-use Rattle.interval.specs.declared.interval.JournalInterval.{JournalInterval}
+use Rattle.layout.specs.declared.Geometry.{Geometry}
+use Rattle.interval.specs.declared.JournalInterval.{JournalInterval}
 use Rattle.interval.specs.Facts.{ValidJournalInterval}
 use Rattle.interval.specs.Journal.{JournalBlock, CyclicSlice, JournalUpdate}
 use Rattle.interval.specs.Laws.{splice-value-off, length-slice, slice-at}

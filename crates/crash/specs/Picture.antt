@@ -7,8 +7,8 @@ use lib.Dec.{leb, ltb}
 use lib.ListN.{length, take, getD}
 use Rattle.laws.specs.Choice.{also, either}
 use Rattle.laws.specs.Part.{tab}
-use Rattle.interval.specs.declared.interval.JournalInterval.{JournalInterval}
-use Rattle.tables.specs.declared.interval_table.IntervalTable.{IntervalTable}
+use Rattle.interval.specs.declared.JournalInterval.{JournalInterval}
+use Rattle.tables.specs.declared.IntervalTable.{IntervalTable}
 
 -- block p lies in an interval that does not pass the ring's end, and in one of several
 unfoldable pub inRow : JournalInterval → ℕ → Bool

@@ -2,16 +2,16 @@
 use Prim.Native.Nat.{ℕ}
 use mathlib.Core.Bool.{cond}
 use lib.Dec.{eqb}
-use Rattle.tables.specs.declared.interval_table.IntervalTable.{IntervalTable}
+use Rattle.tables.specs.declared.IntervalTable.{IntervalTable}
 use Rattle.tables.specs.IdTable.{noIds}
 use Rattle.tables.specs.IntervalTable.{noIntervals}
-use Rattle.requests.specs.declared.slots.Slots.{Slots}
-use Rattle.requests.specs.declared.slots.SuperblockReads.{SuperblockReads}
-use Rattle.requests.specs.declared.slots.SuperblockWrite.the-variants as write
-use Rattle.requests.specs.declared.slots.SuperblockWrites.{SuperblockWrites}
-use Rattle.disk.specs.declared.disk.Disk.{Disk}
-use Rattle.disk.specs.declared.disk.DiskAnswer.the-variants as answer
-use Rattle.disk.specs.declared.disk.DiskStepped.{DiskStepped}
+use Rattle.requests.specs.declared.Slots.{Slots}
+use Rattle.requests.specs.declared.SuperblockReads.{SuperblockReads}
+use Rattle.requests.specs.declared.SuperblockWrite.the-variants as write
+use Rattle.requests.specs.declared.SuperblockWrites.{SuperblockWrites}
+use Rattle.disk.specs.declared.Disk.{Disk}
+use Rattle.disk.specs.declared.DiskAnswer.the-variants as answer
+use Rattle.disk.specs.declared.DiskStepped.{DiskStepped}
 
 -- no requests
 abbrev pub idleDisk : Slots → Disk

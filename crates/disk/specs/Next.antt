@@ -2,20 +2,20 @@
 use Prim.Native.Nat.{ℕ}
 use mathlib.Core.Bool.{cond}
 use lib.Dec.{eqb}
-use Rattle.layout.specs.declared.geometry.Geometry.{Geometry}
-use Rattle.interval.specs.declared.interval.JournalInterval.{JournalInterval}
-use Rattle.superblock.specs.declared.superblock.Superblock.{Superblock}
-use Rattle.superblock.specs.declared.disk_op.MaybeId.{MaybeId}
+use Rattle.layout.specs.declared.Geometry.{Geometry}
+use Rattle.interval.specs.declared.JournalInterval.{JournalInterval}
+use Rattle.superblock.specs.declared.Superblock.{Superblock}
+use Rattle.superblock.specs.declared.MaybeId.{MaybeId}
 use Rattle.tables.specs.IntervalTable.{addedInterval}
-use Rattle.requests.specs.declared.slots.SuperblockWrite.the-variants as write
-use Rattle.disk.specs.declared.disk.Disk.{Disk}
+use Rattle.requests.specs.declared.SuperblockWrite.the-variants as write
+use Rattle.disk.specs.declared.Disk.{Disk}
 use Rattle.disk.specs.Disk.{withSuperblockReads, withSuperblockWrites, withJournalReads, withJournalWrites, withSlots}
 use Rattle.requests.specs.Slots.{putWrite}
-use Rattle.superblock.specs.declared.disk_op.SuperblockRead.{SuperblockRead}
-use Rattle.disk.specs.declared.disk.SuperblockAnswer.the-variants as superblockAnswer
-use Rattle.disk.specs.declared.disk.SuperblockAcked.{SuperblockAcked}
-use Rattle.disk.specs.declared.disk.JournalAnswer.the-variants as journalAnswer
-use Rattle.disk.specs.declared.disk.JournalAcked.{JournalAcked}
+use Rattle.superblock.specs.declared.SuperblockRead.{SuperblockRead}
+use Rattle.disk.specs.declared.SuperblockAnswer.the-variants as superblockAnswer
+use Rattle.disk.specs.declared.SuperblockAcked.{SuperblockAcked}
+use Rattle.disk.specs.declared.JournalAnswer.the-variants as journalAnswer
+use Rattle.disk.specs.declared.JournalAcked.{JournalAcked}
 use Rattle.requests.specs.Receive.{readReceived, writeReceived}
 use Rattle.requests.specs.Acknowledge.{readAcked, intervalLeft}
 use Rattle.requests.specs.Landing.{slotsLanded}

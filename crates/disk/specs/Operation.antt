@@ -2,20 +2,20 @@
 use Prim.Native.Nat.{ℕ}
 use mathlib.Core.Bool.{Bool, true, false}
 use mathlib.Core.List.{List}
-use Rattle.layout.specs.declared.geometry.Geometry.{Geometry}
+use Rattle.layout.specs.declared.Geometry.{Geometry}
 use Rattle.interval.specs.Interval.{interval}
-use Rattle.superblock.specs.declared.disk_op.DiskOp.{DiskOp}
-use Rattle.superblock.specs.declared.disk_op.DiskOp.the-variants as op
-use Rattle.superblock.specs.declared.disk_op.JournalRead.{JournalRead}
-use Rattle.superblock.specs.declared.disk_op.JournalRead.the-variants as read
+use Rattle.superblock.specs.declared.DiskOp.{DiskOp}
+use Rattle.superblock.specs.declared.DiskOp.the-variants as op
+use Rattle.superblock.specs.declared.JournalRead.{JournalRead}
+use Rattle.superblock.specs.declared.JournalRead.the-variants as read
 use Rattle.journal.specs.Memory.{updateBytes, updateMarks}
-use Rattle.disk.specs.declared.disk.Disk.{Disk}
-use Rattle.disk.specs.declared.disk.DiskStepped.{DiskStepped}
-use Rattle.disk.specs.declared.disk.DiskAnswer.{DiskAnswer}
-use Rattle.disk.specs.declared.disk.DiskAnswer.the-variants as answer
-use Rattle.disk.specs.declared.disk.JournalAcked.{JournalAcked}
-use Rattle.disk.specs.declared.disk.JournalAnswer.{JournalAnswer}
-use Rattle.disk.specs.declared.disk.JournalAnswer.the-variants as journalAnswer
+use Rattle.disk.specs.declared.Disk.{Disk}
+use Rattle.disk.specs.declared.DiskStepped.{DiskStepped}
+use Rattle.disk.specs.declared.DiskAnswer.{DiskAnswer}
+use Rattle.disk.specs.declared.DiskAnswer.the-variants as answer
+use Rattle.disk.specs.declared.JournalAcked.{JournalAcked}
+use Rattle.disk.specs.declared.JournalAnswer.{JournalAnswer}
+use Rattle.disk.specs.declared.JournalAnswer.the-variants as journalAnswer
 use Rattle.requests.specs.Receive.{askRecvReadSuperblock, askRecvReadJournal, askRecvWriteSuperblock, askRecvWriteJournal}
 use Rattle.disk.specs.Next.{recvReadSuperblockNext, recvReadJournalNext, recvWriteSuperblockNext, recvWriteJournalNext}
 use Rattle.requests.specs.Acknowledge.{askReadSuperblockAs, heldInterval, askAckReadJournal, askAckWriteSuperblock, askAckWriteJournal}

@@ -4,13 +4,13 @@ use Prim.Native.Nat.{ℕ}
 use mathlib.Core.Bool.{Bool}
 use mathlib.Core.List.{List}
 use Rattle.laws.specs.Choice.{also, ask, andThen}
-use Rattle.layout.specs.declared.geometry.Geometry.{Geometry}
+use Rattle.layout.specs.declared.Geometry.{Geometry}
 use Rattle.journal.specs.Memory.{askBlocks, askJournal}
-use Rattle.tables.specs.declared.interval_table.IntervalTable.{IntervalTable}
+use Rattle.tables.specs.declared.IntervalTable.{IntervalTable}
 use Rattle.tables.specs.Rows.{counted}
 use Rattle.tables.specs.IntervalTable.{validIntervals}
-use Rattle.requests.specs.declared.slots.SuperblockReads.{SuperblockReads}
-use Rattle.disk.specs.declared.disk.Disk.{Disk}
+use Rattle.requests.specs.declared.SuperblockReads.{SuperblockReads}
+use Rattle.disk.specs.declared.Disk.{Disk}
 use Rattle.requests.specs.Limits.{MostSuperblockReads, MostJournalReads, MostJournalWrites}
 
 unfoldable pub readsOk : SuperblockReads → Bool

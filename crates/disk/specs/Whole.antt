@@ -4,16 +4,16 @@ use Prim.Native.Nat.{ℕ}
 use mathlib.Core.Bool.{Bool}
 use mathlib.Core.List.{List}
 use Rattle.laws.specs.Choice.{andThen, unless}
-use Rattle.layout.specs.declared.geometry.Geometry.{Geometry}
-use Rattle.interval.specs.declared.interval.JournalInterval.{JournalInterval}
-use Rattle.superblock.specs.declared.superblock.Superblock.{Superblock}
-use Rattle.superblock.specs.declared.disk_op.MaybeId.{MaybeId}
-use Rattle.superblock.specs.declared.disk_op.DiskOp.{DiskOp}
+use Rattle.layout.specs.declared.Geometry.{Geometry}
+use Rattle.interval.specs.declared.JournalInterval.{JournalInterval}
+use Rattle.superblock.specs.declared.Superblock.{Superblock}
+use Rattle.superblock.specs.declared.MaybeId.{MaybeId}
+use Rattle.superblock.specs.declared.DiskOp.{DiskOp}
 use Rattle.journal.specs.Memory.{updateBytes, updateMarks}
-use Rattle.disk.specs.declared.disk.Disk.{Disk}
-use Rattle.disk.specs.declared.disk.DiskStepped.{DiskStepped}
-use Rattle.disk.specs.declared.disk.SuperblockAcked.{SuperblockAcked}
-use Rattle.disk.specs.declared.disk.JournalAcked.{JournalAcked}
+use Rattle.disk.specs.declared.Disk.{Disk}
+use Rattle.disk.specs.declared.DiskStepped.{DiskStepped}
+use Rattle.disk.specs.declared.SuperblockAcked.{SuperblockAcked}
+use Rattle.disk.specs.declared.JournalAcked.{JournalAcked}
 use Rattle.requests.specs.Slots.{slotAt}
 use Rattle.disk.specs.Disk.{answered}
 use Rattle.disk.specs.Questions.{askDisk, askDiskOut}

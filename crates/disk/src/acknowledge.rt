@@ -1,12 +1,12 @@
 // What the disk does when it answers a request (001's AckRead and AckWrite), after questions 1 and 2. Each function decides by value and
 // shared slices and asks the other questions; none is a step by itself.
-use super::disk::Disk;
-use super::disk::DiskAnswer;
-use super::disk::DiskStepped;
-use super::disk::JournalAcked;
-use super::disk::JournalAnswer;
-use super::disk::SuperblockAcked;
-use super::disk::SuperblockAnswer;
+use super::Disk;
+use super::DiskAnswer;
+use super::DiskStepped;
+use super::JournalAcked;
+use super::JournalAnswer;
+use super::SuperblockAcked;
+use super::SuperblockAnswer;
 use requests::SuperblockWrite;
 use requests::ask_ack_read_journal;
 use requests::ask_ack_read_superblock;

@@ -1,7 +1,7 @@
 // A superblock write lands: its slot holds it (001's ProcessWriteSuperblock). The write stays in flight, and may land again.
-use super::disk::Disk;
-use super::disk::DiskAnswer;
-use super::disk::DiskStepped;
+use super::Disk;
+use super::DiskAnswer;
+use super::DiskStepped;
 use requests::ask_land;
 use requests::slots_landed;
 ghost use mathlib.Core.Path.{_≡_};

@@ -13,7 +13,7 @@
 // itself: it asks the others, decides by value and on shared slices, and leaves lent memory to journal's `write_blocks`, `set_marks` and
 // `copy_blocks`; `decide_asked` is such a part for any operation. Every function is total.
 mod acknowledge;
-mod disk;
+mod idle;
 mod landing;
 mod memory;
 mod operation;
@@ -21,10 +21,51 @@ mod questions;
 mod receive;
 mod whole;
 
-pub use disk::Disk;
-pub use disk::DiskAnswer;
-pub use disk::DiskStepped;
-pub use disk::JournalAcked;
-pub use disk::JournalAnswer;
-pub use disk::SuperblockAcked;
-pub use disk::SuperblockAnswer;
+use interval::JournalInterval;
+use requests::Slots;
+use requests::SuperblockReads;
+use requests::SuperblockWrites;
+use superblock::SuperblockRead;
+use tables::IntervalTable;
+
+// Two slots, and the requests that wait. Its blocks and marks are lent beside it.
+pub struct Disk {
+    pub slots: Slots,
+    pub superblockReads: SuperblockReads,
+    pub superblockWrites: SuperblockWrites,
+    pub journalReads: IntervalTable,
+    pub journalWrites: IntervalTable,
+}
+
+// What a call answers: done, or the number of the question that was answered no. The disk beside it is the next one, or the one given.
+pub enum DiskAnswer {
+    Done,
+    Refused(u8),
+}
+
+pub struct DiskStepped {
+    pub answer: DiskAnswer,
+    pub disk: Disk,
+}
+
+// The answer of a superblock read, with what was read.
+pub enum SuperblockAnswer {
+    Read(SuperblockRead),
+    Refused(u8),
+}
+
+pub struct SuperblockAcked {
+    pub answer: SuperblockAnswer,
+    pub disk: Disk,
+}
+
+// The answer of a journal read, with the interval that the read was of.
+pub enum JournalAnswer {
+    Read(JournalInterval),
+    Refused(u8),
+}
+
+pub struct JournalAcked {
+    pub answer: JournalAnswer,
+    pub disk: Disk,
+}

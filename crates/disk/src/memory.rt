@@ -1,9 +1,9 @@
 // The two operations that touch lent blocks, after questions 1 and 2: a journal write, and a journal read's answer.
-use super::disk::Disk;
-use super::disk::DiskAnswer;
-use super::disk::DiskStepped;
-use super::disk::JournalAcked;
-use super::disk::JournalAnswer;
+use super::Disk;
+use super::DiskAnswer;
+use super::DiskStepped;
+use super::JournalAcked;
+use super::JournalAnswer;
 use interval::JournalInterval;
 use layout::Geometry;
 use requests::ask_recv_write_journal;

@@ -1,9 +1,9 @@
 // One step over the whole disk operation type of 001.
-use super::disk::Disk;
-use super::disk::DiskAnswer;
-use super::disk::DiskStepped;
-use super::disk::JournalAcked;
-use super::disk::JournalAnswer;
+use super::Disk;
+use super::DiskAnswer;
+use super::DiskStepped;
+use super::JournalAcked;
+use super::JournalAnswer;
 use interval::JournalInterval;
 use layout::Geometry;
 use superblock::DiskOp;

@@ -1,5 +1,5 @@
 // Questions 1 and 2: the lent memory, and the state.
-use super::disk::Disk;
+use super::Disk;
 use layout::Geometry;
 use requests::MOST_JOURNAL_READS;
 use requests::MOST_JOURNAL_WRITES;

@@ -1,8 +1,8 @@
 // What the disk does with a request that it receives (001's RecvRead and RecvWrite), after questions 1 and 2. Each function decides by value
 // and asks the other questions; none is a step by itself.
-use super::disk::Disk;
-use super::disk::DiskAnswer;
-use super::disk::DiskStepped;
+use super::Disk;
+use super::DiskAnswer;
+use super::DiskStepped;
 use interval::JournalInterval;
 use layout::Geometry;
 use requests::SuperblockWrite;

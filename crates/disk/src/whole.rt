@@ -1,12 +1,12 @@
 // The disk's operations, whole: questions 1 and 2, then the others, then the lent memory. A refusal hands the disk back and alters no lent
 // byte.
-use super::disk::Disk;
-use super::disk::DiskAnswer;
-use super::disk::DiskStepped;
-use super::disk::JournalAcked;
-use super::disk::JournalAnswer;
-use super::disk::SuperblockAcked;
-use super::disk::SuperblockAnswer;
+use super::Disk;
+use super::DiskAnswer;
+use super::DiskStepped;
+use super::JournalAcked;
+use super::JournalAnswer;
+use super::SuperblockAcked;
+use super::SuperblockAnswer;
 use interval::JournalInterval;
 use layout::Geometry;
 use superblock::MaybeId;

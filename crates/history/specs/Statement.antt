@@ -8,11 +8,11 @@ use mathlib.Core.Option.{Option, none, some}
 use mathlib.Core.Logic.{_↔_}
 use lib.Dec.{eqb}
 use Rattle.laws.specs.Sets.{no-ids, no-keys}
-use Rattle.layout.specs.declared.geometry.Geometry.{Geometry}
-use Rattle.layout.specs.declared.location.Location.{Location}
-use Rattle.interval.specs.declared.interval.JournalInterval.{JournalInterval}
+use Rattle.layout.specs.declared.Geometry.{Geometry}
+use Rattle.layout.specs.declared.Location.{Location}
+use Rattle.interval.specs.declared.JournalInterval.{JournalInterval}
 use Rattle.interval.specs.Journal.{JournalBlock}
-use Rattle.superblock.specs.declared.superblock.Superblock.{Superblock}
+use Rattle.superblock.specs.declared.Superblock.{Superblock}
 use Rattle.codec.specs.Codec.{JournalEntry, JournalRange, Codec}
 use Rattle.source.specs.JournalDisk.{ReqId, ReqWriteSuperblock, ReqWriteJournal, ReqReadSuperblockOp, ReqReadJournalOp, ReqWriteSuperblockOp, ReqWriteJournalOp, RespReadSuperblockOp, RespReadJournalOp, RespWriteSuperblockOp, RespWriteJournalOp, NoDiskOp, ProcessWriteSuperblockStep}
 use Rattle.source.specs.JournalCache as M

@@ -5,13 +5,13 @@ use mathlib.Core.Path.{_≡_, refl}
 use mathlib.Core.Option.{Option, none, some}
 use lib.Dec.{eqb}
 use Rattle.laws.specs.Choice.{ruin}
-use Rattle.interval.specs.declared.interval.JournalInterval.{JournalInterval}
-use Rattle.interval.specs.declared.answer.MaybeInterval.{MaybeInterval}
-use Rattle.interval.specs.declared.answer.MaybeInterval.the-variants as interval
-use Rattle.interval.specs.declared.answer.Spanned.{Spanned}
-use Rattle.interval.specs.declared.answer.Spanned.the-variants as spanned
-use Rattle.interval.specs.declared.answer.MaybeSpanned.{MaybeSpanned}
-use Rattle.interval.specs.declared.answer.MaybeSpanned.the-variants as maybe
+use Rattle.interval.specs.declared.JournalInterval.{JournalInterval}
+use Rattle.interval.specs.declared.MaybeInterval.{MaybeInterval}
+use Rattle.interval.specs.declared.MaybeInterval.the-variants as interval
+use Rattle.interval.specs.declared.Spanned.{Spanned}
+use Rattle.interval.specs.declared.Spanned.the-variants as spanned
+use Rattle.interval.specs.declared.MaybeSpanned.{MaybeSpanned}
+use Rattle.interval.specs.declared.MaybeSpanned.the-variants as maybe
 
 -- from an option to the case
 abbrev pub maybeInterval : Option JournalInterval → MaybeInterval

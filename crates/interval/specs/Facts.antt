@@ -6,9 +6,9 @@ use mathlib.Core.Logic.{_⊎_, inl, inr, ⊎-elim}
 use native.Mathlib.Omega.{arith}
 use borrow.Author.Tests.{leb-true, le-leb, ltb-true, lt-ltb}
 use Rattle.laws.specs.Choice.{also-left, also-right, also-both, either-left, either-right, either-cases, ask-yes, andThen-left, andThen-right}
-use Rattle.layout.specs.declared.geometry.Geometry.{Geometry}
+use Rattle.layout.specs.declared.Geometry.{Geometry}
 use Rattle.layout.specs.Geometry.{ValidGeometry, geometry-asked}
-use Rattle.interval.specs.declared.interval.JournalInterval.{JournalInterval}
+use Rattle.interval.specs.declared.JournalInterval.{JournalInterval}
 use Rattle.interval.specs.Interval.{validJournalInterval, contiguousJournalInterval, inCyclicRange, askInterval, askIntervals, askInRow, askBlock}
 
 pub record ValidJournalInterval (g : Geometry) (v : JournalInterval) : Type 0 where

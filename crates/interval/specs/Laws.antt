@@ -16,11 +16,11 @@ use Rattle.laws.specs.Part.{tab, length-tab, getD-tab}
 use Rattle.laws.specs.Choice.{also-false, false-also, true-also, by-leb, by-ltb, split-le, also-left, also-right, either-cases}
 use Rattle.laws.specs.Ring.{wrap, off, by-off, wrap-below, wrap-past, wrap-in, wrap-add}
 use Rattle.laws.specs.Around.{around, length-around, getD-around, around-straight, around-past, around-append, around-drop, around-none}
-use Rattle.layout.specs.declared.geometry.Geometry.{Geometry}
-use Rattle.layout.specs.declared.location.Location.{Location}
+use Rattle.layout.specs.declared.Geometry.{Geometry}
+use Rattle.layout.specs.declared.Location.{Location}
 use Rattle.layout.specs.Journal.{JournalPosAdd, JournalRangeLocation}
 use Rattle.layout.specs.Laws.{ValidJournalLocation, pos-add-wrap}
-use Rattle.interval.specs.declared.interval.JournalInterval.{JournalInterval}
+use Rattle.interval.specs.declared.JournalInterval.{JournalInterval}
 use Rattle.interval.specs.Interval.{interval, JournalFrontInterval, JournalBackInterval, NextStartPoint, concatIntervals, JournalIntervalOfLocation, subinterval}
 use Rattle.interval.specs.Facts.{ValidJournalInterval, ContiguousJournalInterval, InCyclicRange}
 use Rattle.interval.specs.Journal.{JournalBlock, CyclicSpliceValue, CyclicSlice}

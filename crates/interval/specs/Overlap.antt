@@ -4,9 +4,9 @@ use Prim.Native.Nat.{_+_, _-_}
 use mathlib.Core.Bool.{Bool, true, cond}
 use lib.Dec.{ltb}
 use Rattle.laws.specs.Choice.{also, either}
-use Rattle.layout.specs.declared.geometry.Geometry.{Geometry}
+use Rattle.layout.specs.declared.Geometry.{Geometry}
 use Rattle.layout.specs.Geometry.{NumJournalBlocks}
-use Rattle.interval.specs.declared.interval.JournalInterval.{JournalInterval}
+use Rattle.interval.specs.declared.JournalInterval.{JournalInterval}
 use Rattle.interval.specs.Interval.{interval}
 
 -- of two contiguous intervals

@@ -14,8 +14,8 @@ use Rattle.laws.specs.Choice.{split-le}
 use Rattle.laws.specs.Part.{getD-map-in}
 use Rattle.laws.specs.Ring.{wrap, off, wrap-in, off-wrap}
 use Rattle.laws.specs.Around.{around, spliceAround, length-spliceAround, getD-spliceAround, around-here, around-elsewhere}
-use Rattle.layout.specs.declared.geometry.Geometry.{Geometry}
-use Rattle.interval.specs.declared.interval.JournalInterval.{JournalInterval}
+use Rattle.layout.specs.declared.Geometry.{Geometry}
+use Rattle.interval.specs.declared.JournalInterval.{JournalInterval}
 use Rattle.interval.specs.Facts.{ValidJournalInterval, InCyclicRange}
 use Rattle.interval.specs.Journal.{JournalBlock, ValidJournal, CyclicSpliceValue, JournalUpdate, CyclicSlice}
 use Rattle.interval.specs.Laws.{splice-value-off, off-in-range, slice-around}

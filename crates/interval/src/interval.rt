@@ -1,7 +1,8 @@
-// An interval of the journal's ring: a start (0 to N - 1) and a len (0 to N), both in blocks, going round.
-use super::answer::MaybeInterval;
-use super::answer::MaybeSpanned;
-use super::answer::Spanned;
+// Intervals of the journal's ring: which are valid, their parts, the point after one.
+use super::JournalInterval;
+use super::MaybeInterval;
+use super::MaybeSpanned;
+use super::Spanned;
 use layout::Decision;
 use layout::Geometry;
 use layout::Location;
@@ -16,11 +17,6 @@ ghost use Rattle.layout.specs.Journal.{askJournalLocation};
 ghost use Rattle.interval.specs.Answer.{spannedBy, maybeInterval, maybeSpanned};
 ghost use Rattle.interval.specs.Facts.{ValidJournalInterval};
 ghost use Rattle.interval.specs.Interval.{validJournalInterval, contiguousJournalInterval, inCyclicRange, JournalFrontInterval, JournalBackInterval, subinterval, NextStartPoint, concatIntervals, JournalIntervalOfLocation, askInterval, askIntervals, askInRow, askBlock};
-
-pub struct JournalInterval {
-    pub start: u64,
-    pub len: u64,
-}
 
 impl JournalInterval {
     // Questions 1 and 4, of one interval.

@@ -1,5 +1,5 @@
 // Overlap of intervals: plain, of two that do not pass the ring's end, and cyclic, of any two.
-use super::interval::JournalInterval;
+use super::JournalInterval;
 use layout::Decision;
 use layout::Geometry;
 ghost use mathlib.Core.Path.{_≡_};

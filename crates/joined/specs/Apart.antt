@@ -5,16 +5,16 @@ use mathlib.Core.List.{List, [], _∷_}
 use lib.ListN.{take}
 use Rattle.laws.specs.Choice.{also}
 use Rattle.laws.specs.Fold.{every}
-use Rattle.layout.specs.declared.geometry.Geometry.{Geometry}
-use Rattle.interval.specs.declared.interval.JournalInterval.{JournalInterval}
+use Rattle.layout.specs.declared.Geometry.{Geometry}
+use Rattle.interval.specs.declared.JournalInterval.{JournalInterval}
 use Rattle.interval.specs.Interval.{interval}
 use Rattle.interval.specs.Overlap.{journalIntervalOverlap, journalCyclicIntervalOverlap}
-use Rattle.superblock.specs.declared.superblock.Superblock.{Superblock}
-use Rattle.superblock.specs.declared.disk_op.MaybeSuperblock.{MaybeSuperblock}
-use Rattle.superblock.specs.declared.disk_op.MaybeSuperblock.the-variants as slot
+use Rattle.superblock.specs.declared.Superblock.{Superblock}
+use Rattle.superblock.specs.declared.MaybeSuperblock.{MaybeSuperblock}
+use Rattle.superblock.specs.declared.MaybeSuperblock.the-variants as slot
 use Rattle.superblock.specs.Superblock.{SelectSuperblock, wfSuperblock}
-use Rattle.tables.specs.declared.interval_table.IntervalTable.{IntervalTable}
-use Rattle.requests.specs.declared.slots.Slots.{Slots}
+use Rattle.tables.specs.declared.IntervalTable.{IntervalTable}
+use Rattle.requests.specs.declared.Slots.{Slots}
 
 -- both slots
 abbrev pub slotWf : Geometry → MaybeSuperblock → Bool

@@ -1,32 +1,32 @@
 -- What a machine awaits, in the form in which the disk holds it. What its kind lacks, it does not await.
 use Prim.Native.Nat.{ℕ}
-use Rattle.layout.specs.declared.geometry.Geometry.{Geometry}
-use Rattle.interval.specs.declared.answer.MaybeInterval.{MaybeInterval}
-use Rattle.interval.specs.declared.answer.MaybeInterval.the-variants as interval
-use Rattle.tables.specs.declared.id_table.IdTable.{IdTable}
+use Rattle.layout.specs.declared.Geometry.{Geometry}
+use Rattle.interval.specs.declared.MaybeInterval.{MaybeInterval}
+use Rattle.interval.specs.declared.MaybeInterval.the-variants as interval
+use Rattle.tables.specs.declared.IdTable.{IdTable}
 use Rattle.tables.specs.IdTable.{noIds, addedId}
-use Rattle.loading.specs.declared.slots.SlotRead.{SlotRead}
-use Rattle.loading.specs.declared.slots.SlotRead.the-variants as slot
-use Rattle.loading.specs.declared.superblocks.LoadingSuperblock.{LoadingSuperblock}
-use Rattle.loading.specs.declared.pieces.Piece.{Piece}
-use Rattle.loading.specs.declared.pieces.Piece.the-variants as piece
-use Rattle.loading.specs.declared.other.LoadingOther.{LoadingOther}
+use Rattle.loading.specs.declared.SlotRead.{SlotRead}
+use Rattle.loading.specs.declared.SlotRead.the-variants as slot
+use Rattle.loading.specs.declared.LoadingSuperblock.{LoadingSuperblock}
+use Rattle.loading.specs.declared.Piece.{Piece}
+use Rattle.loading.specs.declared.Piece.the-variants as piece
+use Rattle.loading.specs.declared.LoadingOther.{LoadingOther}
 use Rattle.loading.specs.Other.{frontOf, backOf}
-use Rattle.ready.specs.declared.commit.Commit.{Commit}
-use Rattle.ready.specs.declared.commit.Commit.the-variants as commit
-use Rattle.ready.specs.declared.ready.Ready.{Ready}
+use Rattle.ready.specs.declared.Commit.{Commit}
+use Rattle.ready.specs.declared.Commit.the-variants as commit
+use Rattle.ready.specs.declared.Ready.{Ready}
 use Rattle.ready.specs.State.{commitSlot}
-use Rattle.machine.specs.declared.machine.Machine.{Machine}
+use Rattle.machine.specs.declared.Machine.{Machine}
 use Rattle.machine.specs.Machine.{byKind}
-use Rattle.requests.specs.declared.slots.SuperblockReads.{SuperblockReads}
-use Rattle.requests.specs.declared.slots.SuperblockWrite.{SuperblockWrite}
-use Rattle.requests.specs.declared.slots.SuperblockWrite.the-variants as write
-use Rattle.requests.specs.declared.slots.SuperblockWrites.{SuperblockWrites}
+use Rattle.requests.specs.declared.SuperblockReads.{SuperblockReads}
+use Rattle.requests.specs.declared.SuperblockWrite.{SuperblockWrite}
+use Rattle.requests.specs.declared.SuperblockWrite.the-variants as write
+use Rattle.requests.specs.declared.SuperblockWrites.{SuperblockWrites}
 use Rattle.requests.specs.Slots.{putWrite}
-use Rattle.joined.specs.declared.awaits.AwaitedRead.{AwaitedRead}
-use Rattle.joined.specs.declared.awaits.AwaitedRead.the-variants as read
-use Rattle.joined.specs.declared.awaits.AwaitedReads.{AwaitedReads}
-use Rattle.joined.specs.declared.awaits.Awaited.{Awaited}
+use Rattle.joined.specs.declared.AwaitedRead.{AwaitedRead}
+use Rattle.joined.specs.declared.AwaitedRead.the-variants as read
+use Rattle.joined.specs.declared.AwaitedReads.{AwaitedReads}
+use Rattle.joined.specs.declared.Awaited.{Awaited}
 
 -- a slot's read
 abbrev pub slotIds : SlotRead → IdTable

@@ -3,22 +3,22 @@ use mathlib.Core.Bool.{Bool, true, false}
 use lib.Dec.{eqb}
 use lib.ListN.{take}
 use Rattle.laws.specs.Choice.{also}
-use Rattle.interval.specs.declared.interval.JournalInterval.{JournalInterval}
+use Rattle.interval.specs.declared.JournalInterval.{JournalInterval}
 use Rattle.superblock.specs.Superblock.{sameSuperblock}
-use Rattle.tables.specs.declared.id_table.IdTable.{IdTable}
-use Rattle.tables.specs.declared.interval_table.IntervalTable.{IntervalTable}
-use Rattle.tables.specs.declared.interval_table.Held.{Held}
-use Rattle.tables.specs.declared.interval_table.Held.the-variants as held
+use Rattle.tables.specs.declared.IdTable.{IdTable}
+use Rattle.tables.specs.declared.IntervalTable.{IntervalTable}
+use Rattle.tables.specs.declared.Held.{Held}
+use Rattle.tables.specs.declared.Held.the-variants as held
 use Rattle.tables.specs.Rows.{sameIds}
 use Rattle.tables.specs.IdTable.{noIds, addedId}
 use Rattle.tables.specs.IntervalTable.{intervalMap, heldOf}
-use Rattle.requests.specs.declared.slots.SuperblockReads.{SuperblockReads}
-use Rattle.requests.specs.declared.slots.SuperblockWrite.{SuperblockWrite}
-use Rattle.requests.specs.declared.slots.SuperblockWrite.the-variants as write
-use Rattle.requests.specs.declared.slots.SuperblockWrites.{SuperblockWrites}
-use Rattle.joined.specs.declared.awaits.AwaitedRead.{AwaitedRead}
-use Rattle.joined.specs.declared.awaits.AwaitedRead.the-variants as read
-use Rattle.joined.specs.declared.awaits.AwaitedReads.{AwaitedReads}
+use Rattle.requests.specs.declared.SuperblockReads.{SuperblockReads}
+use Rattle.requests.specs.declared.SuperblockWrite.{SuperblockWrite}
+use Rattle.requests.specs.declared.SuperblockWrite.the-variants as write
+use Rattle.requests.specs.declared.SuperblockWrites.{SuperblockWrites}
+use Rattle.joined.specs.declared.AwaitedRead.{AwaitedRead}
+use Rattle.joined.specs.declared.AwaitedRead.the-variants as read
+use Rattle.joined.specs.declared.AwaitedReads.{AwaitedReads}
 
 -- superblock reads, slot by slot
 unfoldable pub sameTables : IdTable → IdTable → Bool

@@ -4,11 +4,11 @@
 use mathlib.Core.Bool.{Bool}
 use lib.ListN.{take}
 use Rattle.laws.specs.Choice.{also}
-use Rattle.layout.specs.declared.geometry.Geometry.{Geometry}
+use Rattle.layout.specs.declared.Geometry.{Geometry}
 use Rattle.tables.specs.Rows.{sameIds}
-use Rattle.machine.specs.declared.machine.Machine.{Machine}
-use Rattle.disk.specs.declared.disk.Disk.{Disk}
-use Rattle.joined.specs.declared.awaits.Awaited.{Awaited}
+use Rattle.machine.specs.declared.Machine.{Machine}
+use Rattle.disk.specs.declared.Disk.{Disk}
+use Rattle.joined.specs.declared.Awaited.{Awaited}
 use Rattle.joined.specs.Awaited.{awaitedBy}
 use Rattle.joined.specs.Held.{sameReads, sameJournalReads, sameWrites}
 use Rattle.joined.specs.Apart.{slotsWf, writesApart, writesClear}

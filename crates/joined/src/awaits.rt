@@ -1,5 +1,7 @@
 // What a machine awaits, in the form in which the disk holds it. What its kind lacks, it does not await.
-use interval::JournalInterval;
+use super::Awaited;
+use super::AwaitedRead;
+use super::AwaitedReads;
 use interval::MaybeInterval;
 use layout::Geometry;
 use loading::LoadingOther;
@@ -16,24 +18,6 @@ use requests::SuperblockWrites;
 use tables::IdTable;
 ghost use mathlib.Core.Path.{_≡_};
 ghost use Rattle.joined.specs.Awaited.{slotIds, readUnder, pieceAwaited, piecesAwaited, commitWrite, noReads, noPieces, noWrites, commitWrites, superblocksAwait, otherAwaits, readyAwaits, awaitedBy};
-
-// A journal read under its id, of its interval; or none.
-pub enum AwaitedRead {
-    Reading { id: u64, interval: JournalInterval },
-    NoRead,
-}
-
-pub struct AwaitedReads {
-    pub front: AwaitedRead,
-    pub back: AwaitedRead,
-}
-
-pub struct Awaited {
-    pub superblockReads: SuperblockReads,
-    pub journalReads: AwaitedReads,
-    pub superblockWrites: SuperblockWrites,
-    pub journalWrites: IdTable,
-}
 
 // The id of a slot's read, if it is awaited.
 fn slot_ids(slot: SlotRead) -> IdTable

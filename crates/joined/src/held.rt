@@ -1,6 +1,6 @@
 // Does the disk hold exactly what is awaited?
-use super::awaits::AwaitedRead;
-use super::awaits::AwaitedReads;
+use super::AwaitedRead;
+use super::AwaitedReads;
 use interval::JournalInterval;
 use requests::SuperblockReads;
 use requests::SuperblockWrite;

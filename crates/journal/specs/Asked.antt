@@ -8,9 +8,9 @@ use borrow.Author.Tests.{eqb-true, eq-eqb}
 use lib.ListN.{length}
 use Rattle.laws.specs.Choice.{ask-yes, ask-holds, andThen-left, andThen-right, andThen-both, also-left, also-right, also-both}
 use Rattle.laws.specs.Fold.{every}
-use Rattle.layout.specs.declared.geometry.Geometry.{Geometry}
+use Rattle.layout.specs.declared.Geometry.{Geometry}
 use Rattle.layout.specs.Geometry.{ValidGeometry, geometry-asked, asked-geometry}
-use Rattle.interval.specs.declared.interval.JournalInterval.{JournalInterval}
+use Rattle.interval.specs.declared.JournalInterval.{JournalInterval}
 use Rattle.interval.specs.Facts.{ValidJournalInterval, interval-asked}
 use Rattle.journal.specs.Memory.{isMark, fullMarks, askBlocks, askMarks, askJournal, askSize, askReadable, askSliceBytes, askSliceMarks, askUpdate}
 

@@ -13,9 +13,9 @@ use Rattle.laws.specs.Fold.{every, every-at, every-same}
 use Rattle.laws.specs.Part.{tab, length-tab, getD-tab, tab-same, getD-map-in, length-part}
 use Rattle.laws.specs.Ring.{wrap, wrap-in, wrap-scaled}
 use Rattle.laws.specs.Around.{length-around, getD-around}
-use Rattle.layout.specs.declared.geometry.Geometry.{Geometry}
+use Rattle.layout.specs.declared.Geometry.{Geometry}
 use Rattle.layout.specs.Geometry.{NumJournalBlocks}
-use Rattle.interval.specs.declared.interval.JournalInterval.{JournalInterval}
+use Rattle.interval.specs.declared.JournalInterval.{JournalInterval}
 use Rattle.interval.specs.Facts.{ValidJournalInterval}
 use Rattle.interval.specs.Journal.{JournalBlock, CyclicSlice, readable, fullRange}
 use Rattle.interval.specs.Laws.{slice-around, slice-tab}

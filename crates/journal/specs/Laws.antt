@@ -6,8 +6,8 @@ use native.Mathlib.Omega.{arith}
 use lib.ListN.{length, replicate, length-replicate}
 use Rattle.laws.specs.Splice.{splice, clipped, clipped-fits}
 use Rattle.laws.specs.Around.{around, length-around, around-straight, spliceAround, clippedAround-fits}
-use Rattle.layout.specs.declared.geometry.Geometry.{Geometry}
-use Rattle.interval.specs.declared.interval.JournalInterval.{JournalInterval}
+use Rattle.layout.specs.declared.Geometry.{Geometry}
+use Rattle.interval.specs.declared.JournalInterval.{JournalInterval}
 use Rattle.interval.specs.Facts.{ContiguousJournalInterval}
 use Rattle.journal.specs.Memory.{sliceBytes, sliceMarks, updateBytes, updateMarks, copyBlocks}
 use Rattle.journal.specs.Asked.{Blocks, SliceBytes, SliceMarks, Update}

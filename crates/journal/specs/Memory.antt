@@ -9,12 +9,12 @@ use Rattle.laws.specs.Choice.{also, ask, andThen}
 use Rattle.laws.specs.Fold.{every}
 use Rattle.laws.specs.Splice.{clipped}
 use Rattle.laws.specs.Around.{around, clippedAround}
-use Rattle.layout.specs.declared.geometry.Geometry.{Geometry}
+use Rattle.layout.specs.declared.Geometry.{Geometry}
 use Rattle.layout.specs.Geometry.{NumJournalBlocks, askGeometry}
-use Rattle.interval.specs.declared.interval.JournalInterval.{JournalInterval}
+use Rattle.interval.specs.declared.JournalInterval.{JournalInterval}
 use Rattle.interval.specs.Interval.{askInterval}
-use Rattle.journal.specs.declared.answer.Copied.{Copied}
-use Rattle.journal.specs.declared.answer.Copied.the-variants as copied
+use Rattle.journal.specs.declared.Copied.{Copied}
+use Rattle.journal.specs.declared.Copied.the-variants as copied
 
 -- a mark is 0 or 1, and 1 where the block is readable
 unfoldable pub isMark : ℕ → Bool

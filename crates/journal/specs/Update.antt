@@ -13,8 +13,8 @@ use Rattle.laws.specs.Choice.{split-le}
 use Rattle.laws.specs.Part.{length-tab, getD-tab}
 use Rattle.laws.specs.Ring.{off, off-scaled}
 use Rattle.laws.specs.Around.{spliceAround, length-spliceAround, getD-spliceAround}
-use Rattle.layout.specs.declared.geometry.Geometry.{Geometry}
-use Rattle.interval.specs.declared.interval.JournalInterval.{JournalInterval}
+use Rattle.layout.specs.declared.Geometry.{Geometry}
+use Rattle.interval.specs.declared.JournalInterval.{JournalInterval}
 use Rattle.interval.specs.Journal.{JournalBlock, JournalUpdate}
 use Rattle.interval.specs.Laws.{splice-value-off}
 use Rattle.interval.specs.Update.{updated, updated-at, length-updated, updated-is}

@@ -8,14 +8,12 @@
 //   copy_blocks, write_blocks, set_marks       the same copying and writing without a question, for a step that has asked
 // Every function is total. One that asks answers by an enum, the value or the refusal number, and a refusal leaves the lent memory as it
 // was. One that asks nothing is cut where the memory ends.
-mod answer;
 mod questions;
 mod readable;
 mod size;
 mod slices;
 mod update;
 
-pub use answer::Copied;
 pub use questions::ask_blocks;
 pub use questions::ask_journal;
 pub use questions::ask_marks;
@@ -29,3 +27,9 @@ pub use slices::cyclic_slice_marks;
 pub use update::journal_update;
 pub use update::set_marks;
 pub use update::write_blocks;
+
+// How many blocks were copied or written, or the number of the question that was answered no.
+pub enum Copied {
+    Blocks(u64),
+    Refused(u8),
+}

@@ -1,5 +1,5 @@
 // Blocks and marks copied out: an interval's in order to the front of a buffer, and a run of blocks to a place in a longer one.
-use super::answer::Copied;
+use super::Copied;
 use super::questions::ask_blocks;
 use super::questions::ask_marks;
 use super::size::bytes_of;

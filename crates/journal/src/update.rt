@@ -1,5 +1,5 @@
 // An interval's blocks written: their bytes, their marks, and both after the questions.
-use super::answer::Copied;
+use super::Copied;
 use super::questions::ask_journal;
 use super::questions::ask_size;
 use super::size::bytes_of;

@@ -7,17 +7,17 @@ use mathlib.Core.Logic.{⊎-elim}
 use mathlib.Core.Option.{Option, none, some}
 use lib.Dec.{eqb}
 use Rattle.laws.specs.Choice.{ruin, asked-either}
-use Rattle.layout.specs.declared.location.Location.{Location}
-use Rattle.layout.specs.declared.answer.Address.{Address}
-use Rattle.layout.specs.declared.answer.Address.the-variants as address
-use Rattle.layout.specs.declared.answer.Position.{Position}
-use Rattle.layout.specs.declared.answer.Position.the-variants as position
-use Rattle.layout.specs.declared.answer.Decision.{Decision}
-use Rattle.layout.specs.declared.answer.Decision.the-variants as decision
-use Rattle.layout.specs.declared.answer.Located.{Located}
-use Rattle.layout.specs.declared.answer.Located.the-variants as located
-use Rattle.layout.specs.declared.answer.MaybeLocated.{MaybeLocated}
-use Rattle.layout.specs.declared.answer.MaybeLocated.the-variants as maybe
+use Rattle.layout.specs.declared.Location.{Location}
+use Rattle.layout.specs.declared.Address.{Address}
+use Rattle.layout.specs.declared.Address.the-variants as address
+use Rattle.layout.specs.declared.Position.{Position}
+use Rattle.layout.specs.declared.Position.the-variants as position
+use Rattle.layout.specs.declared.Decision.{Decision}
+use Rattle.layout.specs.declared.Decision.the-variants as decision
+use Rattle.layout.specs.declared.Located.{Located}
+use Rattle.layout.specs.declared.Located.the-variants as located
+use Rattle.layout.specs.declared.MaybeLocated.{MaybeLocated}
+use Rattle.layout.specs.declared.MaybeLocated.the-variants as maybe
 
 -- from the number and the value to the case
 abbrev pub addressed : ℕ → ℕ → Address

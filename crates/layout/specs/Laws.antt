@@ -7,8 +7,8 @@ use native.Mathlib.Omega.{arith}
 use borrow.Author.Tests.{leb-true, le-leb, ltb-true, lt-ltb, eqb-true, eq-eqb}
 use Rattle.laws.specs.Choice.{also-left, also-right, also-both, either-left, either-right, either-cases, ask-yes, ask-holds, andThen-left, andThen-right, andThen-both}
 use Rattle.laws.specs.Ring.{wrap}
-use Rattle.layout.specs.declared.geometry.Geometry.{Geometry}
-use Rattle.layout.specs.declared.location.Location.{Location}
+use Rattle.layout.specs.declared.Geometry.{Geometry}
+use Rattle.layout.specs.declared.Location.{Location}
 use Rattle.layout.specs.Geometry.{IndirectionTable1Addr, IndirectionTable2Addr, JournalPoint, ValidGeometry, geometry-asked, asked-geometry}
 use Rattle.layout.specs.Location.{validIndirectionTableAddr, wholeBlocks, validJournalLocation, validIndirectionTableLocation, sameLocation, Superblock1Location, Superblock2Location, validSuperblock1Location, validSuperblock2Location, validSuperblockLocation}
 use Rattle.layout.specs.Journal.{JournalRangeLocation, JournalPosAdd, JournalBlockIdx, askPoint, askRange, askCircular, askJournalLocation}

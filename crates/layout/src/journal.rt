@@ -1,10 +1,10 @@
 // Blocks of the journal's ring as locations: of a straight range, of the front and the back of a circular one; positions on the ring.
-use super::answer::Decision;
-use super::answer::Located;
-use super::answer::MaybeLocated;
-use super::answer::Position;
-use super::geometry::Geometry;
-use super::location::Location;
+use super::Decision;
+use super::Geometry;
+use super::Located;
+use super::Location;
+use super::MaybeLocated;
+use super::Position;
 ghost use mathlib.Core.Path.{_≡_};
 ghost use Prim.Native.Nat.{_+_, _≤_};
 ghost use lib.Dec.{leb};

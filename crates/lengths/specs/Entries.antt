@@ -14,8 +14,8 @@ use Rattle.laws.specs.Fold.{sum, every, sum-append, sum-bound, every-append, ev
 use Rattle.laws.specs.Part.{drop-take, length-part}
 use Rattle.range.specs.Form.{MostEntryLength, okLength}
 use Rattle.range.specs.Bytes.{ok-high}
-use Rattle.lengths.specs.declared.held.Held.{Held}
-use Rattle.lengths.specs.declared.held.Held.the-variants as held
+use Rattle.lengths.specs.declared.Held.{Held}
+use Rattle.lengths.specs.declared.Held.the-variants as held
 use Rattle.lengths.specs.Held.{heldOk, held-facts, facts-held, answer, heldOf, answer-bytes, answer-nothing}
 
 -- the lengths of the entries from one place up to another

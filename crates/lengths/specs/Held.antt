@@ -11,8 +11,8 @@ use borrow.Author.Tests.{leb-true, le-leb}
 use Rattle.laws.specs.Choice.{also, also-left, also-right, also-both, not-so, false-true, ruin}
 use Rattle.laws.specs.Fold.{sum, every, sum-append, sum-split, every-append, every-take, every-drop}
 use Rattle.range.specs.Form.{okLength}
-use Rattle.lengths.specs.declared.held.Held.{Held}
-use Rattle.lengths.specs.declared.held.Held.the-variants as held
+use Rattle.lengths.specs.declared.Held.{Held}
+use Rattle.lengths.specs.declared.Held.the-variants as held
 
 -- each from 1 to the greatest, and no more than `room` together: as a test, and as facts
 unfoldable pub heldOk : ℕ → ℕ → List ℕ → Bool

@@ -5,7 +5,7 @@ use mathlib.Core.Path.{_≡_, refl, sym, _∙_}
 use lib.Dec.{eqb}
 use borrow.Author.Tests.{eqb-true, eqb-false}
 use Rattle.laws.specs.Choice.{unless, unless-done, unless-kept, ruin}
-use Rattle.writer.specs.declared.answer.Written.the-variants as write
+use Rattle.writer.specs.declared.Written.the-variants as write
 use Rattle.writer.specs.Answer.{written}
 
 -- a number that is written where nothing was refused, and stays else

@@ -8,14 +8,14 @@ use lib.ListN.{length, set, length-set}
 use lib.Dec.{eqb}
 use borrow.Author.Tests.{eqb-true, eqb-false}
 use Rattle.laws.specs.Choice.{ask, ask-yes, andThen, andThen-first, andThen-done, unless, unless-kept, unless-done, ruin}
-use Rattle.layout.specs.declared.geometry.Geometry.{Geometry}
-use Rattle.superblock.specs.declared.disk_op.MaybeId.{MaybeId}
-use Rattle.superblock.specs.declared.disk_op.DiskOp.{DiskOp}
-use Rattle.superblock.specs.declared.disk_op.DiskOp.the-variants as op
-use Rattle.machine.specs.declared.machine.Machine.{Machine}
-use Rattle.machine.specs.declared.machine.MachineAnswer.{MachineAnswer}
-use Rattle.machine.specs.declared.machine.MachineAnswer.the-variants as answer
-use Rattle.machine.specs.declared.machine.MachineStepped.{MachineStepped}
+use Rattle.layout.specs.declared.Geometry.{Geometry}
+use Rattle.superblock.specs.declared.MaybeId.{MaybeId}
+use Rattle.superblock.specs.declared.DiskOp.{DiskOp}
+use Rattle.superblock.specs.declared.DiskOp.the-variants as op
+use Rattle.machine.specs.declared.Machine.{Machine}
+use Rattle.machine.specs.declared.MachineAnswer.{MachineAnswer}
+use Rattle.machine.specs.declared.MachineAnswer.the-variants as answer
+use Rattle.machine.specs.declared.MachineStepped.{MachineStepped}
 use Rattle.machine.specs.Machine.{refused, accepted, answered}
 use Rattle.machine.specs.Lent.{Lent}
 use Rattle.machine.specs.Questions.{askMachine, bodiesOf}

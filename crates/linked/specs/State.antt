@@ -5,15 +5,15 @@ use mathlib.Core.List.{List}
 use lib.ListN.{length, getD}
 use lib.Dec.{eqb}
 use Rattle.laws.specs.Choice.{ask}
-use Rattle.layout.specs.declared.geometry.Geometry.{Geometry}
-use Rattle.superblock.specs.declared.superblock.Superblock.{Superblock}
+use Rattle.layout.specs.declared.Geometry.{Geometry}
+use Rattle.superblock.specs.declared.Superblock.{Superblock}
 use Rattle.tables.specs.IdTable.{noIds}
-use Rattle.ready.specs.declared.commit.Commit.the-variants.{CommitNone}
-use Rattle.ready.specs.declared.frozen.Frozen.{Frozen}
-use Rattle.ready.specs.declared.frozen.MaybeLocation.the-variants.{NoLocation}
-use Rattle.ready.specs.declared.entries.Entries.{Entries}
-use Rattle.ready.specs.declared.ready.Ready.{Ready}
-use Rattle.machine.specs.declared.machine.Machine.{Machine}
+use Rattle.ready.specs.declared.Commit.the-variants.{CommitNone}
+use Rattle.ready.specs.declared.Frozen.{Frozen}
+use Rattle.ready.specs.declared.MaybeLocation.the-variants.{NoLocation}
+use Rattle.ready.specs.declared.Entries.{Entries}
+use Rattle.ready.specs.declared.Ready.{Ready}
+use Rattle.machine.specs.declared.Machine.{Machine}
 use Rattle.machine.specs.Machine.{toReady, initialMachine}
 use Rattle.linked.specs.Numbers.{geometryOf, counts}
 

@@ -4,8 +4,8 @@ use mathlib.Core.List.{List}
 use lib.ListN.{set}
 use Rattle.laws.specs.Choice.{andThen, unless}
 use Rattle.memory.specs.Given.{memory, countOf}
-use Rattle.superblock.specs.declared.disk_op.MaybeId.{MaybeId}
-use Rattle.machine.specs.declared.machine.Machine.{Machine}
+use Rattle.superblock.specs.declared.MaybeId.{MaybeId}
+use Rattle.machine.specs.declared.Machine.{Machine}
 use Rattle.machine.specs.Lent.{Lent}
 use Rattle.machine.specs.Questions.{askMachine, bodiesOf}
 use Rattle.machine.specs.Working.{givenOf, advanceMachine, askReplayStep, replayMachine, writeBackJournalReqMachine}

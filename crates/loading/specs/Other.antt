@@ -5,19 +5,19 @@ use mathlib.Core.Bool.{Bool, cond}
 use mathlib.Core.Option.{Option}
 use lib.Dec.{leb}
 use Rattle.laws.specs.Choice.{also, ask, andThen}
-use Rattle.layout.specs.declared.geometry.Geometry.{Geometry}
-use Rattle.interval.specs.declared.interval.JournalInterval.{JournalInterval}
-use Rattle.interval.specs.declared.answer.MaybeInterval.{MaybeInterval}
-use Rattle.interval.specs.declared.answer.MaybeInterval.the-variants as maybe
+use Rattle.layout.specs.declared.Geometry.{Geometry}
+use Rattle.interval.specs.declared.JournalInterval.{JournalInterval}
+use Rattle.interval.specs.declared.MaybeInterval.{MaybeInterval}
+use Rattle.interval.specs.declared.MaybeInterval.the-variants as maybe
 use Rattle.interval.specs.Answer.{maybeInterval}
 use Rattle.interval.specs.Interval.{interval}
-use Rattle.superblock.specs.declared.superblock.Superblock.{Superblock}
-use Rattle.superblock.specs.declared.disk_op.JournalRead.{JournalRead}
+use Rattle.superblock.specs.declared.Superblock.{Superblock}
+use Rattle.superblock.specs.declared.JournalRead.{JournalRead}
 use Rattle.superblock.specs.Superblock.{SelectSuperblockIndex, SelectSuperblock, JournalFrontIntervalOfSuperblock, JournalBackIntervalOfSuperblock, wfSuperblock}
-use Rattle.loading.specs.declared.pieces.Piece.{Piece}
-use Rattle.loading.specs.declared.pieces.Piece.the-variants as piece
-use Rattle.loading.specs.declared.other.LoadingOther.{LoadingOther}
-use Rattle.loading.specs.declared.other.Paged.{Paged}
+use Rattle.loading.specs.declared.Piece.{Piece}
+use Rattle.loading.specs.declared.Piece.the-variants as piece
+use Rattle.loading.specs.declared.LoadingOther.{LoadingOther}
+use Rattle.loading.specs.declared.Paged.{Paged}
 use Rattle.loading.specs.Which.{isSecond, askWhich}
 use Rattle.loading.specs.Pieces.{isThere, blocksOf, pieceInterval, pieceReads, pieceUnread, pieceLoaded, pieceReadsDiffer, withoutRead, pieceRead}
 

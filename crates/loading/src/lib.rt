@@ -10,9 +10,40 @@ mod slots;
 mod superblocks;
 mod which;
 
-pub use other::LoadingOther;
-pub use other::Paged;
-pub use pieces::Piece;
-pub use slots::SlotRead;
-pub use superblocks::LoadingSuperblock;
+use superblock::Superblock;
 pub use which::ask_which;
+
+// The two slots while the superblocks are read.
+pub struct LoadingSuperblock {
+    pub first: SlotRead,
+    pub second: SlotRead,
+}
+
+// The id that is awaited, how the read ended and what it brought are one enum, so that a slot whose read has ended awaits nothing.
+pub enum SlotRead {
+    Unasked,
+    Awaited(u64),
+    Success(Superblock),
+    Corruption,
+}
+
+// The selected superblock, and the two pieces of its journal while they are read.
+pub struct LoadingOther {
+    pub superblock: Superblock,
+    pub whichSuperblock: u64,
+    pub front: Piece,
+    pub back: Piece,
+}
+
+// Where the blocks of an answer go: from block `place` of lent memory on, `len` of them; none where nobody awaits the answer.
+pub struct Paged {
+    pub place: u64,
+    pub len: u64,
+}
+
+// A piece that is in awaits nothing; its blocks lie in lent memory.
+pub enum Piece {
+    Unread,
+    Reading(u64),
+    In,
+}

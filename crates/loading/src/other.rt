@@ -1,6 +1,8 @@
 // Loading the journal of the selected superblock, in up to two pieces: each is asked for and answered, and once those that are there are in,
 // their blocks lie in lent memory one after another, as many as the superblock's journalLen.
-use super::pieces::Piece;
+use super::LoadingOther;
+use super::Paged;
+use super::Piece;
 use super::pieces::blocks_of;
 use super::pieces::is_there;
 use super::which::ask_which;
@@ -14,19 +16,6 @@ use superblock::select_superblock_index;
 ghost use mathlib.Core.Path.{_≡_};
 ghost use Rattle.interval.specs.Answer.{maybeInterval};
 ghost use Rattle.loading.specs.Other.{selectedOther, loadingOtherOk, piecesOk, frontBlocks, backBlocks, intervalAt, pieceAt, toPieces, askPageInJournalReq, pageInJournalReqInterval, pageInJournalReqNext, placeOf, pageInJournalRespNext, askFinishLoadingOtherPhase, loadedBlocks};
-
-pub struct LoadingOther {
-    pub superblock: Superblock,
-    pub whichSuperblock: u64,
-    pub front: Piece,
-    pub back: Piece,
-}
-
-// Where the blocks of an answer go: from block `place` of lent memory on, `len` of them; none where nobody awaits the answer.
-pub struct Paged {
-    pub place: u64,
-    pub len: u64,
-}
 
 impl LoadingOther {
     // The newer of two superblocks, and neither piece read.

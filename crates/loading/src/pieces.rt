@@ -1,15 +1,9 @@
-// One piece of the journal while it is read: the front, up to the ring's end, or the back, from the first block on. A piece that is in awaits
-// nothing; its blocks lie in lent memory.
+// One piece of the journal while it is read: the front, up to the ring's end, or the back, from the first block on.
+use super::Piece;
 use interval::MaybeInterval;
 use superblock::JournalRead;
 ghost use mathlib.Core.Path.{_≡_};
 ghost use Rattle.loading.specs.Pieces.{isThere, blocksOf, pieceInterval, pieceReads, pieceUnread, pieceLoaded, pieceReadsDiffer, withoutRead, pieceRead};
-
-pub enum Piece {
-    Unread,
-    Reading(u64),
-    In,
-}
 
 // Has the superblock's interval this piece?
 pub(crate) fn is_there(v: MaybeInterval) -> bool

@@ -1,18 +1,10 @@
-// One superblock slot while it is read. The id that is awaited, how the read ended and what it brought are one enum, so that a slot whose read
-// has ended awaits nothing.
+// One superblock slot while it is read.
+use super::SlotRead;
 use layout::Geometry;
 use superblock::MaybeSuperblock;
-use superblock::Superblock;
 use superblock::SuperblockRead;
 ghost use mathlib.Core.Path.{_≡_};
 ghost use Rattle.loading.specs.Slots.{successWf, slotAwaits, slotUnasked, slotCorrupt, slotSucceeded, slotHolds, slotReadsDiffer, slotRead};
-
-pub enum SlotRead {
-    Unasked,
-    Awaited(u64),
-    Success(Superblock),
-    Corruption,
-}
 
 impl SlotRead {
     // Is a superblock that was read well formed?

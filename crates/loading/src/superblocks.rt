@@ -1,18 +1,14 @@
 // Loading the superblocks: both slots are asked for and answered, a corrupt one can be asked for again, and once both have been read the
 // newer superblock is selected.
-use super::other::LoadingOther;
-use super::slots::SlotRead;
+use super::LoadingOther;
+use super::LoadingSuperblock;
+use super::SlotRead;
 use super::which::ask_which;
 use layout::Geometry;
 use superblock::MaybeSuperblock;
 use superblock::SuperblockRead;
 ghost use mathlib.Core.Path.{_≡_};
 ghost use Rattle.loading.specs.Superblocks.{initial, loadingSuperblockOk, slotAt, otherSlot, toSlot, askPageInSuperblockReq, pageInSuperblockReqNext, superblockAwaited, pageInSuperblockRespNext, askFinishLoadingSuperblockPhase, finishLoadingSuperblockPhaseNext, askAskAgain, askAgainNext};
-
-pub struct LoadingSuperblock {
-    pub first: SlotRead,
-    pub second: SlotRead,
-}
 
 impl LoadingSuperblock {
     // 000's `Init`: neither slot has been asked for.

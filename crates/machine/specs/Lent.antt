@@ -3,10 +3,10 @@ use Prim.Native.Nat.{ℕ}
 use mathlib.Core.List.{List}
 use lib.ListN.{length}
 use Rattle.laws.specs.Choice.{andThen}
-use Rattle.layout.specs.declared.geometry.Geometry.{Geometry}
+use Rattle.layout.specs.declared.Geometry.{Geometry}
 use Rattle.layout.specs.Geometry.{NumJournalBlocks}
 use Rattle.journal.specs.Memory.{askBlocks}
-use Rattle.memory.specs.declared.limits.Limits.{Limits}
+use Rattle.memory.specs.declared.Limits.{Limits}
 use Rattle.memory.specs.Limits.{askPendingLent}
 use Rattle.memory.specs.Replay.{askReplayLent}
 

@@ -8,24 +8,24 @@ use lib.ListN.{length, take}
 use Rattle.laws.specs.Choice.{andThen}
 use Rattle.laws.specs.Cut.{flat, lengths}
 use Rattle.laws.specs.Splice.{splice}
-use Rattle.layout.specs.declared.geometry.Geometry.{Geometry}
+use Rattle.layout.specs.declared.Geometry.{Geometry}
 use Rattle.interval.specs.Interval.{interval}
-use Rattle.superblock.specs.declared.disk_op.SuperblockRead.{SuperblockRead}
-use Rattle.superblock.specs.declared.disk_op.JournalRead.{JournalRead}
-use Rattle.superblock.specs.declared.disk_op.JournalRead.the-variants as read
-use Rattle.superblock.specs.declared.disk_op.DiskOp.{DiskOp}
-use Rattle.superblock.specs.declared.disk_op.DiskOp.the-variants as op
+use Rattle.superblock.specs.declared.SuperblockRead.{SuperblockRead}
+use Rattle.superblock.specs.declared.JournalRead.{JournalRead}
+use Rattle.superblock.specs.declared.JournalRead.the-variants as read
+use Rattle.superblock.specs.declared.DiskOp.{DiskOp}
+use Rattle.superblock.specs.declared.DiskOp.the-variants as op
 use Rattle.journal.specs.Memory.{askSize, copyBlocks}
 use Rattle.range.specs.Form.{allEntries}
 use Rattle.reader.specs.declared.answer.Scanned.{Scanned}
 use Rattle.reader.specs.declared.answer.Scanned.the-variants as scan
 use Rattle.unpacker.specs.Unpack.{askUnpack}
-use Rattle.loading.specs.declared.other.Paged.{Paged}
+use Rattle.loading.specs.declared.Paged.{Paged}
 use Rattle.loading.specs.Which.{askWhich}
 use Rattle.loading.specs.Superblocks.{askPageInSuperblockReq, pageInSuperblockReqNext, pageInSuperblockRespNext, askFinishLoadingSuperblockPhase, finishLoadingSuperblockPhaseNext, askAskAgain, askAgainNext}
 use Rattle.loading.specs.Other.{place, placeOf, askPageInJournalReq, pageInJournalReqInterval, pageInJournalReqNext, pageInJournalRespNext, askFinishLoadingOtherPhase, loadedBlocks}
 use Rattle.ready.specs.State.{loaded}
-use Rattle.machine.specs.declared.machine.Machine.{Machine}
+use Rattle.machine.specs.declared.Machine.{Machine}
 use Rattle.machine.specs.Machine.{byKind, askLoadingSuperblock, askLoadingOther, withSuperblocks, withOther, toOther, toReady}
 
 -- PageInJournalReq: 3, then 4 and 6

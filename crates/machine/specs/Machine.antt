@@ -3,23 +3,23 @@
 use Prim.Native.Nat.{ℕ}
 use mathlib.Core.Bool.{Bool, true, false, cond}
 use lib.Dec.{eqb}
-use Rattle.superblock.specs.declared.superblock.Superblock.{Superblock}
-use Rattle.superblock.specs.declared.disk_op.DiskOp.{DiskOp}
-use Rattle.tables.specs.declared.sync_table.SyncTable.{SyncTable}
+use Rattle.superblock.specs.declared.Superblock.{Superblock}
+use Rattle.superblock.specs.declared.DiskOp.{DiskOp}
+use Rattle.tables.specs.declared.SyncTable.{SyncTable}
 use Rattle.tables.specs.SyncTable.{noSyncs}
-use Rattle.memory.specs.declared.limits.Limits.{Limits}
+use Rattle.memory.specs.declared.Limits.{Limits}
 use Rattle.memory.specs.Limits.{storeLimits}
-use Rattle.loading.specs.declared.superblocks.LoadingSuperblock.{LoadingSuperblock}
-use Rattle.loading.specs.declared.other.LoadingOther.{LoadingOther}
-use Rattle.loading.specs.declared.pieces.Piece.the-variants as piece
+use Rattle.loading.specs.declared.LoadingSuperblock.{LoadingSuperblock}
+use Rattle.loading.specs.declared.LoadingOther.{LoadingOther}
+use Rattle.loading.specs.declared.Piece.the-variants as piece
 use Rattle.loading.specs.Superblocks.{initial}
-use Rattle.ready.specs.declared.ready.Ready.{Ready}
+use Rattle.ready.specs.declared.Ready.{Ready}
 use Rattle.ready.specs.State.{loaded}
-use Rattle.machine.specs.declared.machine.Kind.{Kind}
-use Rattle.machine.specs.declared.machine.Kind.the-variants as kind
-use Rattle.machine.specs.declared.machine.Machine.{Machine}
-use Rattle.machine.specs.declared.machine.MachineAnswer.the-variants as answer
-use Rattle.machine.specs.declared.machine.MachineStepped.{MachineStepped}
+use Rattle.machine.specs.declared.Kind.{Kind}
+use Rattle.machine.specs.declared.Kind.the-variants as kind
+use Rattle.machine.specs.declared.Machine.{Machine}
+use Rattle.machine.specs.declared.MachineAnswer.the-variants as answer
+use Rattle.machine.specs.declared.MachineStepped.{MachineStepped}
 
 -- document 01's limits: sync requests, and what pending memory holds
 abbrev pub MostSyncReqs : ℕ

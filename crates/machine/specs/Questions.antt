@@ -4,24 +4,24 @@ use mathlib.Core.Bool.{Bool, true, false, cond}
 use mathlib.Core.List.{List}
 use lib.Dec.{eqb}
 use Rattle.laws.specs.Choice.{also, andThen, ask}
-use Rattle.layout.specs.declared.geometry.Geometry.{Geometry}
+use Rattle.layout.specs.declared.Geometry.{Geometry}
 use Rattle.layout.specs.Geometry.{NumJournalBlocks}
-use Rattle.tables.specs.declared.sync_table.SyncTable.{SyncTable}
+use Rattle.tables.specs.declared.SyncTable.{SyncTable}
 use Rattle.tables.specs.Rows.{counted}
 use Rattle.tables.specs.SyncTable.{validStates}
 use Rattle.range.specs.Memory.{total}
-use Rattle.memory.specs.declared.limits.Limits.{Limits}
+use Rattle.memory.specs.declared.Limits.{Limits}
 use Rattle.memory.specs.Given.{memory}
 use Rattle.memory.specs.Pending.{askFrozen}
 use Rattle.memory.specs.Replay.{askReplay}
 use Rattle.loading.specs.Superblocks.{loadingSuperblockOk}
 use Rattle.loading.specs.Other.{loadingOtherOk}
-use Rattle.ready.specs.declared.entries.Entries.{Entries}
-use Rattle.ready.specs.declared.entries.Bodies.{Bodies}
+use Rattle.ready.specs.declared.Entries.{Entries}
+use Rattle.ready.specs.declared.Bodies.{Bodies}
 use Rattle.ready.specs.Inv.{readyOk}
-use Rattle.machine.specs.declared.machine.Machine.{Machine}
-use Rattle.machine.specs.declared.questions.Asked.{Asked}
-use Rattle.machine.specs.declared.questions.Asked.the-variants as asked
+use Rattle.machine.specs.declared.Machine.{Machine}
+use Rattle.machine.specs.declared.Asked.{Asked}
+use Rattle.machine.specs.declared.Asked.the-variants as asked
 use Rattle.machine.specs.Machine.{MostSyncReqs, limitsOf, byKind}
 use Rattle.machine.specs.Lent.{Lent, askLent}
 

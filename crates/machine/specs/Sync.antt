@@ -4,10 +4,10 @@ use lib.Dec.{eqb}
 use lib.ListN.{take}
 use Rattle.laws.specs.Choice.{ask, andThen}
 use Rattle.laws.specs.Sets.{idsOf}
-use Rattle.tables.specs.declared.sync_table.SyncTable.{SyncTable}
+use Rattle.tables.specs.declared.SyncTable.{SyncTable}
 use Rattle.tables.specs.Rows.{placeOf, askAdd}
 use Rattle.tables.specs.SyncTable.{stateMap, orZero, addedSync, removedSync}
-use Rattle.machine.specs.declared.machine.Machine.{Machine}
+use Rattle.machine.specs.declared.Machine.{Machine}
 use Rattle.machine.specs.Machine.{MostSyncReqs, withSync}
 
 -- PushSyncReq: 5 an id that is there; 8. It begins at State3

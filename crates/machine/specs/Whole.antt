@@ -3,16 +3,16 @@
 use Prim.Native.Nat.{ℕ}
 use mathlib.Core.List.{List}
 use Rattle.laws.specs.Choice.{andThen, unless}
-use Rattle.layout.specs.declared.geometry.Geometry.{Geometry}
-use Rattle.layout.specs.declared.location.Location.{Location}
-use Rattle.superblock.specs.declared.disk_op.MaybeId.{MaybeId}
-use Rattle.superblock.specs.declared.disk_op.SuperblockRead.{SuperblockRead}
-use Rattle.superblock.specs.declared.disk_op.JournalRead.{JournalRead}
-use Rattle.superblock.specs.declared.disk_op.DiskOp.the-variants as op
+use Rattle.layout.specs.declared.Geometry.{Geometry}
+use Rattle.layout.specs.declared.Location.{Location}
+use Rattle.superblock.specs.declared.MaybeId.{MaybeId}
+use Rattle.superblock.specs.declared.SuperblockRead.{SuperblockRead}
+use Rattle.superblock.specs.declared.JournalRead.{JournalRead}
+use Rattle.superblock.specs.declared.DiskOp.the-variants as op
 use Rattle.journal.specs.Memory.{askBlocks}
 use Rattle.memory.specs.Given.{memory, countOf}
-use Rattle.machine.specs.declared.machine.Machine.{Machine}
-use Rattle.machine.specs.declared.machine.MachineStepped.{MachineStepped}
+use Rattle.machine.specs.declared.Machine.{Machine}
+use Rattle.machine.specs.declared.MachineStepped.{MachineStepped}
 use Rattle.machine.specs.Machine.{answered}
 use Rattle.machine.specs.Lent.{Lent}
 use Rattle.machine.specs.Questions.{askMachine, bodiesOf}

@@ -7,38 +7,38 @@ use lib.Dec.{eqb}
 use lib.ListN.{take, drop}
 use Rattle.laws.specs.Choice.{ask, andThen}
 use Rattle.laws.specs.Splice.{splice, clipped}
-use Rattle.layout.specs.declared.geometry.Geometry.{Geometry}
-use Rattle.layout.specs.declared.location.Location.{Location}
+use Rattle.layout.specs.declared.Geometry.{Geometry}
+use Rattle.layout.specs.declared.Location.{Location}
 use Rattle.layout.specs.Journal.{JournalPosAdd}
-use Rattle.superblock.specs.declared.superblock.Superblock.{Superblock}
-use Rattle.superblock.specs.declared.disk_op.MaybeId.{MaybeId}
-use Rattle.superblock.specs.declared.disk_op.DiskOp.{DiskOp}
-use Rattle.superblock.specs.declared.disk_op.DiskOp.the-variants as op
-use Rattle.tables.specs.declared.sync_table.SyncTable.{SyncTable}
+use Rattle.superblock.specs.declared.Superblock.{Superblock}
+use Rattle.superblock.specs.declared.MaybeId.{MaybeId}
+use Rattle.superblock.specs.declared.DiskOp.{DiskOp}
+use Rattle.superblock.specs.declared.DiskOp.the-variants as op
+use Rattle.tables.specs.declared.SyncTable.{SyncTable}
 use Rattle.tables.specs.SyncTable.{movedSyncs}
-use Rattle.memory.specs.declared.count.Count.{Count}
-use Rattle.memory.specs.declared.count.Counted.{Counted}
-use Rattle.memory.specs.declared.count.Counted.the-variants as counted
+use Rattle.memory.specs.declared.Count.{Count}
+use Rattle.memory.specs.declared.Counted.{Counted}
+use Rattle.memory.specs.declared.Counted.the-variants as counted
 use Rattle.memory.specs.Answer as answers
 use Rattle.memory.specs.Given.{memory, countOf, askGiven}
 use Rattle.memory.specs.Replay.{isNext}
 use Rattle.writer.specs.Ring.{putRange}
 use Rattle.loading.specs.Which.{askWhich}
-use Rattle.ready.specs.declared.frozen.MaybeLocation.{MaybeLocation}
-use Rattle.ready.specs.declared.frozen.MaybeLocation.the-variants as maybe
-use Rattle.ready.specs.declared.entries.Bodies.{Bodies}
-use Rattle.ready.specs.declared.entries.Entries.{Entries}
-use Rattle.ready.specs.declared.ready.Ready.{Ready}
-use Rattle.ready.specs.declared.journal_steps.JournalWrite.{JournalWrite}
-use Rattle.ready.specs.declared.journal_steps.JournalWrite.the-variants as write
-use Rattle.ready.specs.declared.commit_steps.NewSuperblock.{NewSuperblock}
-use Rattle.ready.specs.declared.commit_steps.NewSuperblock.the-variants as new
+use Rattle.ready.specs.declared.MaybeLocation.{MaybeLocation}
+use Rattle.ready.specs.declared.MaybeLocation.the-variants as maybe
+use Rattle.ready.specs.declared.Bodies.{Bodies}
+use Rattle.ready.specs.declared.Entries.{Entries}
+use Rattle.ready.specs.declared.Ready.{Ready}
+use Rattle.ready.specs.declared.JournalWrite.{JournalWrite}
+use Rattle.ready.specs.declared.JournalWrite.the-variants as write
+use Rattle.ready.specs.declared.NewSuperblock.{NewSuperblock}
+use Rattle.ready.specs.declared.NewSuperblock.the-variants as new
 use Rattle.ready.specs.State.{count, noneFrozen, awaitsId, commitSlot, replayLeft, sent, left}
 use Rattle.ready.specs.JournalSteps.{sentBlocks, askWriteBackJournalReq, writeBackJournalReq, writeBackJournalReqNext, writeBackJournalRespNext}
 use Rattle.ready.specs.CommitSteps.{askAdvanceLog, advancedLog, advanceLog, advanceLogNext, askAdvanceLocation, advancedLocation, advanceLocation, advanceLocationNext, writeBackSuperblockRespNext}
 use Rattle.ready.specs.FreezeSteps.{askFreeze, freezeNext, askReceiveFrozenLoc, receiveFrozenLocNext}
 use Rattle.ready.specs.EntrySteps.{advanced, askAdvance, advanceNext, replayNext}
-use Rattle.machine.specs.declared.machine.Machine.{Machine}
+use Rattle.machine.specs.declared.Machine.{Machine}
 use Rattle.machine.specs.declared.journal_steps.SentRange.{SentRange}
 use Rattle.machine.specs.Machine.{limitsOf, noSuperblock, byKind, askReady, withReady, withSync}
 

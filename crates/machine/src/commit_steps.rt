@@ -1,8 +1,8 @@
 // Both commits and their answer, after questions 1 and 2; none is a step by itself.
-use super::machine::Kind;
-use super::machine::Machine;
-use super::machine::MachineStepped;
-use super::machine::no_superblock;
+use super::Kind;
+use super::Machine;
+use super::MachineStepped;
+use super::kinds::no_superblock;
 use layout::Geometry;
 use loading::ask_which;
 use ready::NewSuperblock;

@@ -1,6 +1,6 @@
 // Advance and Replay, after questions 1 and 2; neither is a step by itself.
-use super::machine::Machine;
-use super::machine::MachineStepped;
+use super::Machine;
+use super::MachineStepped;
 use memory::Count;
 use memory::Counted;
 use memory::append_entries;
@@ -11,7 +11,7 @@ use ready::Entries;
 use ready::Ready;
 ghost use mathlib.Core.Path.{_≡_};
 ghost use Rattle.laws.specs.Choice.{unless};
-ghost use Rattle.superblock.specs.declared.disk_op.DiskOp.the-variants.{NoDiskOp};
+ghost use Rattle.superblock.specs.declared.DiskOp.the-variants.{NoDiskOp};
 ghost use Rattle.memory.specs.Given.{memory, countOf};
 ghost use Rattle.ready.specs.State.{count};
 ghost use Rattle.ready.specs.EntrySteps.{advanceNext, replayNext};

@@ -1,11 +1,11 @@
 // Freeze and ReceiveFrozenLoc, after questions 1 and 2; neither is a step by itself.
-use super::machine::Machine;
-use super::machine::MachineStepped;
+use super::Machine;
+use super::MachineStepped;
 use layout::Geometry;
 use layout::Location;
 use superblock::DiskOp;
 ghost use mathlib.Core.Path.{_≡_};
-ghost use Rattle.superblock.specs.declared.disk_op.DiskOp.the-variants.{NoDiskOp};
+ghost use Rattle.superblock.specs.declared.DiskOp.the-variants.{NoDiskOp};
 ghost use Rattle.machine.specs.Machine.{answered};
 ghost use Rattle.machine.specs.Working.{askFreezeStep, freezeMachine, askReceiveFrozenLocStep, receiveFrozenLocMachine};
 

@@ -1,6 +1,6 @@
 // Journal writes and their answers, after questions 1 and 2; none is a step by itself.
-use super::machine::Machine;
-use super::machine::MachineStepped;
+use super::Machine;
+use super::MachineStepped;
 use super::sending::send_range;
 use layout::Geometry;
 use memory::Count;

@@ -16,17 +16,50 @@ mod commit_steps;
 mod entry_steps;
 mod freeze_steps;
 mod journal_steps;
+mod kinds;
 mod loading_steps;
-mod machine;
 mod questions;
 mod sending;
 mod sync_steps;
 mod whole_loading;
 mod whole_working;
 
-pub use machine::Kind;
-pub use machine::Machine;
-pub use machine::MachineAnswer;
-pub use machine::MachineStepped;
-pub use questions::Asked;
+use loading::LoadingOther;
+use loading::LoadingSuperblock;
+use ready::Bodies;
+use ready::Ready;
 pub use sending::send_range;
+use superblock::DiskOp;
+use tables::SyncTable;
+
+pub enum Kind {
+    LoadingSuperblock,
+    LoadingOther,
+    Ready,
+}
+
+// What a kind lacks is no part of the state: the record beside it that is another kind's is not looked at.
+pub struct Machine {
+    pub kind: Kind,
+    pub superblocks: LoadingSuperblock,
+    pub other: LoadingOther,
+    pub ready: Ready,
+    pub sync: SyncTable,
+}
+
+// The next machine's disk operation, or the number of the question that was answered no. The machine beside it is the next one, or the one given.
+pub enum MachineAnswer {
+    Next(DiskOp),
+    Refused(u8),
+}
+
+pub struct MachineStepped {
+    pub answer: MachineAnswer,
+    pub machine: Machine,
+}
+
+// What was found in pending memory, where nothing is refused: the bytes of its entries.
+pub enum Asked {
+    Held(Bodies),
+    Refused(u8),
+}

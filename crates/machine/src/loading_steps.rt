@@ -1,7 +1,7 @@
 // The steps of a machine that loads, after questions 1 and 2; none is a step by itself.
-use super::machine::Kind;
-use super::machine::Machine;
-use super::machine::MachineStepped;
+use super::Kind;
+use super::Machine;
+use super::MachineStepped;
 use interval::JournalInterval;
 use journal::ask_size;
 use journal::bytes_of;
@@ -16,7 +16,7 @@ use superblock::SuperblockRead;
 use unpacker::unpack;
 ghost use mathlib.Core.Path.{_≡_};
 ghost use Rattle.laws.specs.Choice.{unless};
-ghost use Rattle.superblock.specs.declared.disk_op.DiskOp.the-variants.{NoDiskOp};
+ghost use Rattle.superblock.specs.declared.DiskOp.the-variants.{NoDiskOp};
 ghost use Rattle.laws.specs.Splice.{splice};
 ghost use Rattle.laws.specs.Cut.{flat, lengths};
 ghost use Rattle.range.specs.Form.{allEntries};

@@ -1,6 +1,7 @@
 // Questions 1 and 2: the lent memory, and the state.
-use super::machine::Kind;
-use super::machine::Machine;
+use super::Asked;
+use super::Kind;
+use super::Machine;
 use journal::ask_blocks;
 use layout::Geometry;
 use memory::Limits;
@@ -15,12 +16,6 @@ ghost use mathlib.Core.Path.{_≡_};
 ghost use Rattle.machine.specs.Lent.{lent, askLent};
 ghost use Rattle.machine.specs.Questions.{syncOk, kindOk, machineOk, askEntries, entryBodies, askHeld, bodiesOf, askMachine, found, refusalOf, bodiesIn};
 ghost use Rattle.machine.specs.Whole.{askMachineOut};
-
-// What was found in pending memory, where nothing is refused: the bytes of its entries.
-pub enum Asked {
-    Held(Bodies),
-    Refused(u8),
-}
 
 impl Asked {
     // The refusal number, or 0.

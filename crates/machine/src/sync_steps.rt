@@ -1,10 +1,10 @@
 // Sync requests, after questions 1 and 2; neither is a step by itself.
-use super::machine::Machine;
-use super::machine::MachineStepped;
+use super::Machine;
+use super::MachineStepped;
 use superblock::DiskOp;
 use tables::SyncTable;
 ghost use mathlib.Core.Path.{_≡_};
-ghost use Rattle.superblock.specs.declared.disk_op.DiskOp.the-variants.{NoDiskOp};
+ghost use Rattle.superblock.specs.declared.DiskOp.the-variants.{NoDiskOp};
 ghost use Rattle.machine.specs.Machine.{answered};
 ghost use Rattle.machine.specs.Sync.{askPushSyncReq, pushSyncReqMachine, askPopSyncReq, popSyncReqMachine};
 

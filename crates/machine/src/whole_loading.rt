@@ -1,8 +1,8 @@
 // The loading steps of the machine, whole: questions 1 and 2, then the others, then the lent memory. A refusal hands the machine back and alters
 // no lent byte.
+use super::Machine;
+use super::MachineStepped;
 use super::loading_steps::ask_piece;
-use super::machine::Machine;
-use super::machine::MachineStepped;
 use journal::copy_blocks;
 use layout::Geometry;
 use superblock::DiskOp;

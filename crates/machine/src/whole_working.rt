@@ -1,7 +1,7 @@
 // The steps of work of the machine, whole: questions 1 and 2, then the others, then the lent memory. A refusal hands the machine back and alters
 // no lent byte.
-use super::machine::Machine;
-use super::machine::MachineStepped;
+use super::Machine;
+use super::MachineStepped;
 use layout::Geometry;
 use layout::Location;
 use superblock::DiskOp;

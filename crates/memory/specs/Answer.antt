@@ -5,11 +5,11 @@ use mathlib.Core.Path.{_≡_, refl, sym, _∙_, ap}
 use lib.Dec.{eqb}
 use borrow.Author.Tests.{eq-eqb, ne-eqb, eqb-true, eqb-false}
 use Rattle.laws.specs.Choice.{ruin}
-use Rattle.memory.specs.declared.count.Count.{Count}
-use Rattle.memory.specs.declared.count.Counted.{Counted}
-use Rattle.memory.specs.declared.count.Counted.the-variants as answer
-use Rattle.memory.specs.declared.count.PendingCount.{PendingCount}
-use Rattle.memory.specs.declared.count.PendingCount.the-variants as pending
+use Rattle.memory.specs.declared.Count.{Count}
+use Rattle.memory.specs.declared.Counted.{Counted}
+use Rattle.memory.specs.declared.Counted.the-variants as answer
+use Rattle.memory.specs.declared.PendingCount.{PendingCount}
+use Rattle.memory.specs.declared.PendingCount.the-variants as pending
 
 -- from the number and the counts to the case
 unfoldable pub counted : ℕ → Count → Counted

@@ -10,9 +10,9 @@ use Rattle.laws.specs.Choice.{also, ask, also-left, also-right, also-both, ask-
 use Rattle.range.specs.Form.{Entry, MostEntryLength}
 use Rattle.range.specs.Memory.{view, total}
 use Rattle.lengths.specs.Entries.{Entries, entriesOk, entriesHeld, entries-facts, facts-entries, entries-bytes, entries-nothing, entries-small}
-use Rattle.lengths.specs.declared.held.Held.the-variants as held
-use Rattle.memory.specs.declared.count.Count.{Count}
-use Rattle.memory.specs.declared.count.Counted.the-variants as answer
+use Rattle.lengths.specs.declared.Held.the-variants as held
+use Rattle.memory.specs.declared.Count.{Count}
+use Rattle.memory.specs.declared.Counted.the-variants as answer
 use Rattle.memory.specs.Answer.{counted, counted-done, counted-no}
 
 pub record Memory : Type 0 where

@@ -7,8 +7,8 @@ use lib.Dec.{leb, eqb}
 use borrow.Author.Tests.{leb-true, le-leb, lt-leb, eqb-true, eq-eqb}
 use Rattle.laws.specs.Choice.{also, ask, also-left, also-right, also-both, ask-yes, ask-holds, ask-fails}
 use Rattle.range.specs.Form.{MostEntries}
-use Rattle.memory.specs.declared.limits.Limits.{Limits}
-use Rattle.memory.specs.declared.count.Count.{Count}
+use Rattle.memory.specs.declared.Limits.{Limits}
+use Rattle.memory.specs.declared.Count.{Count}
 
 abbrev pub MostBytes : ℕ
 MostBytes = 65536

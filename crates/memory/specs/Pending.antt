@@ -6,9 +6,9 @@ use Rattle.laws.specs.Choice.{ask, andThen, unless}
 use Rattle.laws.specs.Splice.{splice}
 use Rattle.range.specs.Memory.{total}
 use Rattle.lengths.specs.Entries.{entriesOk}
-use Rattle.memory.specs.declared.limits.Limits.{Limits}
-use Rattle.memory.specs.declared.count.Count.{Count}
-use Rattle.memory.specs.declared.count.Counted.{Counted}
+use Rattle.memory.specs.declared.Limits.{Limits}
+use Rattle.memory.specs.declared.Count.{Count}
+use Rattle.memory.specs.declared.Counted.{Counted}
 use Rattle.memory.specs.Limits.{askPendingLent, askRoom}
 use Rattle.memory.specs.Answer.{counted}
 use Rattle.memory.specs.Given.{Memory, bytesOf, askGiven}

@@ -13,7 +13,7 @@ use Rattle.laws.specs.Splice.{splice, length-splice, drop-splice, take-splice-t
 use Rattle.laws.specs.Fold.{sum, every, every-append, every-drop}
 use Rattle.range.specs.Form.{MostEntryLength, okLength}
 use Rattle.range.specs.Memory.{total, total-write, total-split, view-add, view-moved}
-use Rattle.memory.specs.declared.limits.Limits.{Limits}
+use Rattle.memory.specs.declared.Limits.{Limits}
 use Rattle.memory.specs.Given.{Memory, bytesOf, entriesOf}
 use Rattle.memory.specs.Pending.{askPending, appended, frontTaken}
 use Rattle.memory.specs.PendingLaws.{Pending, asked-pending, Appends}

@@ -14,11 +14,11 @@ use Rattle.laws.specs.Splice.{splice, clipped, clipped-fits}
 use Rattle.range.specs.Form.{MostEntries}
 use Rattle.range.specs.Memory.{total}
 use Rattle.lengths.specs.Entries.{Entries, part, entriesHeld, entriesOk, entries-facts, facts-entries, entries-bytes, entries-nothing, entries-first, entries-rest, entries-join, part-sum}
-use Rattle.lengths.specs.declared.held.Held.the-variants as held
-use Rattle.memory.specs.declared.limits.Limits.{Limits}
-use Rattle.memory.specs.declared.count.Count.{Count}
-use Rattle.memory.specs.declared.count.Counted.the-variants as answer
-use Rattle.memory.specs.declared.count.PendingCount.the-variants as pending
+use Rattle.lengths.specs.declared.Held.the-variants as held
+use Rattle.memory.specs.declared.Limits.{Limits}
+use Rattle.memory.specs.declared.Count.{Count}
+use Rattle.memory.specs.declared.Counted.the-variants as answer
+use Rattle.memory.specs.declared.PendingCount.the-variants as pending
 use Rattle.memory.specs.Limits.{MostBytes, askPendingLent, PendingLent, lent-asked, asked-lent, askRoom, room-asked, room-yes}
 use Rattle.memory.specs.Answer.{counted, counted-now, counted-refused, counted-done, counted-no, pendingCounted, pending-now, pending-done, pending-no}
 use Rattle.memory.specs.Given.{Memory, bytesOf, countOf, askGiven, Given, given-asked, asked-given, given-small}

@@ -11,8 +11,8 @@ use Rattle.layout.specs.Geometry.{BlockSize, MostBlocks}
 use Rattle.range.specs.Form.{Entry}
 use Rattle.range.specs.Memory.{view}
 use Rattle.lengths.specs.Entries.{part, entriesOk}
-use Rattle.memory.specs.declared.count.Count.{Count}
-use Rattle.memory.specs.declared.count.Counted.{Counted}
+use Rattle.memory.specs.declared.Count.{Count}
+use Rattle.memory.specs.declared.Counted.{Counted}
 use Rattle.memory.specs.Answer.{counted}
 use Rattle.memory.specs.Given.{Memory, bytesOf, countOf, askGiven}
 

@@ -16,7 +16,7 @@ use Rattle.laws.specs.Cut.{flat, lengths, length-flat, length-lengths}
 use Rattle.range.specs.Form.{Entry, MostEntryLength, okLength}
 use Rattle.range.specs.Memory.{view, total, total-front, length-view, lengths-view, flat-view, view-same, view-take, view-drop, view-none, view-entries}
 use Rattle.lengths.specs.Entries.{Entries, part, part-is, part-sum, entries-rest}
-use Rattle.memory.specs.declared.count.Count.{Count}
+use Rattle.memory.specs.declared.Count.{Count}
 use Rattle.memory.specs.Given.{Memory, memory, bytesOf, entriesOf, askGiven, Given, given-asked}
 use Rattle.memory.specs.Replay.{leftEntries, isNext, nextOfReplay, askReplay, askNext, takenThen}
 use Rattle.memory.specs.ReplayLaws.{Left, Replay, replay-asked, asked-replay}

@@ -10,10 +10,10 @@ use Rattle.laws.specs.Choice.{also, and-also, also-left, also-right, also-both,
 use Rattle.laws.specs.Fold.{same}
 use Rattle.layout.specs.Geometry.{BlockSize, MostBlocks}
 use Rattle.lengths.specs.Entries.{Entries, entriesHeld, entries-facts, facts-entries, entries-bytes, entries-nothing}
-use Rattle.lengths.specs.declared.held.Held.the-variants as held
-use Rattle.memory.specs.declared.count.Count.{Count}
-use Rattle.memory.specs.declared.count.Counted.{Counted}
-use Rattle.memory.specs.declared.count.Counted.the-variants as answer
+use Rattle.lengths.specs.declared.Held.the-variants as held
+use Rattle.memory.specs.declared.Count.{Count}
+use Rattle.memory.specs.declared.Counted.{Counted}
+use Rattle.memory.specs.declared.Counted.the-variants as answer
 use Rattle.memory.specs.Answer.{counted, counted-now, counted-refused, counted-done, counted-no}
 use Rattle.memory.specs.Given.{Memory, countOf, askGiven, given-asked, given-small}
 use Rattle.memory.specs.Replay.{replayLent, askReplayLent, leftOf, leftOk, askReplay, isNext, nextOfReplay, askNext, nextAnswer}

@@ -1,6 +1,6 @@
 // Entries that a caller brings.
-use super::count::Count;
-use super::count::Counted;
+use super::Count;
+use super::Counted;
 use lengths::Held;
 use lengths::entries_held;
 ghost use mathlib.Core.Path.{_≡_};

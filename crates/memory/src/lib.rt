@@ -9,17 +9,13 @@
 //   is_next, next_of_replay         are the given entries the next ones? Replay memory stays as it is, and what is taken of it is counted
 // Every function is total. `append_entries` and `move_front` ask nothing: a step that has asked calls them. `append`, `take_front` and
 // `next_of_replay` ask everything first, and on a refusal lent memory is as it was. Each question looks at a length once.
-mod count;
+mod counts;
 mod given;
-mod limits;
 mod pending;
 mod replay;
+mod room;
 
-pub use count::Count;
-pub use count::Counted;
-pub use count::PendingCount;
 pub use given::count_given;
-pub use limits::Limits;
 pub use pending::append;
 pub use pending::append_entries;
 pub use pending::count_pending;
@@ -29,3 +25,27 @@ pub use replay::ask_replay_lent;
 pub use replay::count_left;
 pub use replay::is_next;
 pub use replay::next_of_replay;
+
+// A number of entries and of their bytes.
+pub struct Count {
+    pub entries: u64,
+    pub bytes: u64,
+}
+
+// A count, or the number of the question that was answered no.
+pub enum Counted {
+    Now(Count),
+    Refused(u8),
+}
+
+// What pending memory holds: its frozen entries, which come first, and all of them. Or the number of a refusal.
+pub enum PendingCount {
+    Now { frozen: Count, all: Count },
+    Refused(u8),
+}
+
+// How much pending memory holds: its lent slices have exactly these lengths.
+pub struct Limits {
+    pub entries: u64,
+    pub bytes: u64,
+}

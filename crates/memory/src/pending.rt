@@ -1,9 +1,9 @@
 // Pending memory: the entries lie from its front on, the frozen ones first, and new ones come behind them.
-use super::count::Count;
-use super::count::Counted;
-use super::count::PendingCount;
+use super::Count;
+use super::Counted;
+use super::Limits;
+use super::PendingCount;
 use super::given::count_given;
-use super::limits::Limits;
 use lengths::Held;
 use lengths::entries_held;
 use runs::lesser;

@@ -1,7 +1,7 @@
 // Replay memory: N blocks of bytes and as many lengths. The entries stay in place, and what is taken of them is counted; the state is what
 // is left.
-use super::count::Count;
-use super::count::Counted;
+use super::Count;
+use super::Counted;
 use super::given::count_given;
 use layout::Geometry;
 use lengths::Held;

@@ -3,19 +3,19 @@ use Prim.Native.Nat.{ℕ, _-_}
 use mathlib.Core.Bool.{Bool, cond}
 use lib.Dec.{leb, ltb, eqb}
 use Rattle.laws.specs.Choice.{also, ask}
-use Rattle.layout.specs.declared.geometry.Geometry.{Geometry}
-use Rattle.layout.specs.declared.location.Location.{Location}
+use Rattle.layout.specs.declared.Geometry.{Geometry}
+use Rattle.layout.specs.declared.Location.{Location}
 use Rattle.layout.specs.Geometry.{NumJournalBlocks}
 use Rattle.layout.specs.Journal.{JournalPosAdd}
-use Rattle.superblock.specs.declared.superblock.Superblock.{Superblock}
+use Rattle.superblock.specs.declared.Superblock.{Superblock}
 use Rattle.superblock.specs.Superblock.{IncrementSuperblockCounter}
-use Rattle.ready.specs.declared.frozen.MaybeLocation.{MaybeLocation}
-use Rattle.ready.specs.declared.frozen.MaybeLocation.the-variants.{NoLocation, Received}
-use Rattle.ready.specs.declared.commit.Commit.{Commit}
-use Rattle.ready.specs.declared.commit.Commit.the-variants.{CommitNone, CommitAdvanceLog, CommitAdvanceLocation}
-use Rattle.ready.specs.declared.ready.Ready.{Ready}
-use Rattle.ready.specs.declared.commit_steps.NewSuperblock.{NewSuperblock}
-use Rattle.ready.specs.declared.commit_steps.NewSuperblock.the-variants as new
+use Rattle.ready.specs.declared.MaybeLocation.{MaybeLocation}
+use Rattle.ready.specs.declared.MaybeLocation.the-variants.{NoLocation, Received}
+use Rattle.ready.specs.declared.Commit.{Commit}
+use Rattle.ready.specs.declared.Commit.the-variants.{CommitNone, CommitAdvanceLog, CommitAdvanceLocation}
+use Rattle.ready.specs.declared.Ready.{Ready}
+use Rattle.ready.specs.declared.NewSuperblock.{NewSuperblock}
+use Rattle.ready.specs.declared.NewSuperblock.the-variants as new
 use Rattle.ready.specs.State.{isReceived, noCommit, noneFrozen, noneOutstanding, commitSlot, withCommit, notFrozen}
 
 -- the clauses that both requests have

@@ -3,11 +3,11 @@
 use Prim.Native.Nat.{ℕ, _+_}
 use lib.Dec.{leb}
 use Rattle.laws.specs.Choice.{also, andThen, ask}
-use Rattle.memory.specs.declared.count.Count.{Count}
-use Rattle.memory.specs.declared.count.Counted.{Counted}
-use Rattle.memory.specs.declared.limits.Limits.{Limits}
+use Rattle.memory.specs.declared.Count.{Count}
+use Rattle.memory.specs.declared.Counted.{Counted}
+use Rattle.memory.specs.declared.Limits.{Limits}
 use Rattle.memory.specs.Answer.{counted}
-use Rattle.ready.specs.declared.ready.Ready.{Ready}
+use Rattle.ready.specs.declared.Ready.{Ready}
 use Rattle.ready.specs.State.{replayed, count, counts, withEntries}
 
 -- what pending memory holds with the new entries, if the pending ones take `held` bytes

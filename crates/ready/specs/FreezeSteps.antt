@@ -2,11 +2,11 @@
 use Prim.Native.Nat.{ℕ}
 use mathlib.Core.Bool.{true, not}
 use Rattle.laws.specs.Choice.{also, andThen, ask}
-use Rattle.layout.specs.declared.geometry.Geometry.{Geometry}
-use Rattle.layout.specs.declared.location.Location.{Location}
+use Rattle.layout.specs.declared.Geometry.{Geometry}
+use Rattle.layout.specs.declared.Location.{Location}
 use Rattle.layout.specs.Location.{validIndirectionTableLocation}
-use Rattle.ready.specs.declared.frozen.MaybeLocation.the-variants.{NoLocation, Received}
-use Rattle.ready.specs.declared.ready.Ready.{Ready}
+use Rattle.ready.specs.declared.MaybeLocation.the-variants.{NoLocation, Received}
+use Rattle.ready.specs.declared.Ready.{Ready}
 use Rattle.ready.specs.State.{isReceived, isLocation, noCommit, replayed, frozenAt, counts, withFrozen, withEntries}
 
 -- Freeze: question 6

@@ -4,21 +4,21 @@ use mathlib.Core.Bool.{Bool, cond}
 use lib.Dec.{leb, ltb, eqb}
 use lib.ListN.{take}
 use Rattle.laws.specs.Choice.{also, andThen, ask}
-use Rattle.layout.specs.declared.geometry.Geometry.{Geometry}
+use Rattle.layout.specs.declared.Geometry.{Geometry}
 use Rattle.layout.specs.Geometry.{NumJournalBlocks}
 use Rattle.layout.specs.Journal.{JournalPosAdd}
-use Rattle.superblock.specs.declared.disk_op.MaybeId.{MaybeId}
-use Rattle.superblock.specs.declared.disk_op.MaybeId.the-variants.{Id, NoId}
-use Rattle.tables.specs.declared.id_table.IdTable.{IdTable}
+use Rattle.superblock.specs.declared.MaybeId.{MaybeId}
+use Rattle.superblock.specs.declared.MaybeId.the-variants.{Id, NoId}
+use Rattle.tables.specs.declared.IdTable.{IdTable}
 use Rattle.tables.specs.Rows.{placeOf, askJoin}
 use Rattle.tables.specs.IdTable.{joinedId, removedId}
 use Rattle.range.specs.Form.{LengthWidth, used, blocksFor}
-use Rattle.ready.specs.declared.frozen.Frozen.{Frozen}
-use Rattle.ready.specs.declared.entries.Entries.{Entries}
-use Rattle.ready.specs.declared.entries.Bodies.{Bodies}
-use Rattle.ready.specs.declared.ready.Ready.{Ready}
-use Rattle.ready.specs.declared.journal_steps.JournalWrite.{JournalWrite}
-use Rattle.ready.specs.declared.journal_steps.JournalWrite.the-variants as write
+use Rattle.ready.specs.declared.Frozen.{Frozen}
+use Rattle.ready.specs.declared.Entries.{Entries}
+use Rattle.ready.specs.declared.Bodies.{Bodies}
+use Rattle.ready.specs.declared.Ready.{Ready}
+use Rattle.ready.specs.declared.JournalWrite.{JournalWrite}
+use Rattle.ready.specs.declared.JournalWrite.the-variants as write
 use Rattle.ready.specs.State.{noCommit, noneFrozen, sent, frozenAt, counts, withWrites}
 use Rattle.ready.specs.Inv.{MostWrites}
 

@@ -2,20 +2,20 @@
 use Prim.Native.Nat.{ℕ, _-_}
 use mathlib.Core.Bool.{Bool, true, false, cond}
 use lib.Dec.{leb, eqb}
-use Rattle.layout.specs.declared.location.Location.{Location}
+use Rattle.layout.specs.declared.Location.{Location}
 use Rattle.layout.specs.Location.{sameLocation}
-use Rattle.superblock.specs.declared.superblock.Superblock.{Superblock}
-use Rattle.tables.specs.declared.id_table.IdTable.{IdTable}
+use Rattle.superblock.specs.declared.Superblock.{Superblock}
+use Rattle.tables.specs.declared.IdTable.{IdTable}
 use Rattle.tables.specs.IdTable.{noIds}
-use Rattle.memory.specs.declared.count.Count.{Count}
-use Rattle.ready.specs.declared.frozen.MaybeLocation.{MaybeLocation}
-use Rattle.ready.specs.declared.frozen.MaybeLocation.the-variants.{NoLocation, Received}
-use Rattle.ready.specs.declared.frozen.Frozen.{Frozen}
-use Rattle.ready.specs.declared.commit.Commit.{Commit}
-use Rattle.ready.specs.declared.commit.Commit.the-variants.{CommitNone, CommitAdvanceLog, CommitAdvanceLocation}
-use Rattle.ready.specs.declared.entries.Entries.{Entries}
-use Rattle.ready.specs.declared.entries.Bodies.{Bodies}
-use Rattle.ready.specs.declared.ready.Ready.{Ready}
+use Rattle.memory.specs.declared.Count.{Count}
+use Rattle.ready.specs.declared.MaybeLocation.{MaybeLocation}
+use Rattle.ready.specs.declared.MaybeLocation.the-variants.{NoLocation, Received}
+use Rattle.ready.specs.declared.Frozen.{Frozen}
+use Rattle.ready.specs.declared.Commit.{Commit}
+use Rattle.ready.specs.declared.Commit.the-variants.{CommitNone, CommitAdvanceLog, CommitAdvanceLocation}
+use Rattle.ready.specs.declared.Entries.{Entries}
+use Rattle.ready.specs.declared.Bodies.{Bodies}
+use Rattle.ready.specs.declared.Ready.{Ready}
 
 -- frozenLoc.Some?, frozenLoc == Some(loc)
 abbrev pub isReceived : MaybeLocation → Bool

@@ -1,8 +1,9 @@
 // Commits: both requests (WriteBackSuperblockReq), and the answer (WriteBackSuperblockResp).
-use super::commit::Commit;
-use super::frozen::Frozen;
-use super::frozen::MaybeLocation;
-use super::ready::Ready;
+use super::Commit;
+use super::Frozen;
+use super::MaybeLocation;
+use super::NewSuperblock;
+use super::Ready;
 use super::ring::pos_add;
 use super::sums::less;
 use layout::Geometry;
@@ -13,12 +14,6 @@ ghost use mathlib.Core.Path.{_≡_};
 ghost use Prim.Native.Nat.{_<_};
 ghost use Rattle.ready.specs.State.{withCommit, awaitsId};
 ghost use Rattle.ready.specs.CommitSteps.{mayCommit, askAdvanceLog, advancedLog, advanceLog, advanceLogNext, askAdvanceLocation, advancedLocation, advanceLocation, advanceLocationNext, logCommitted, locationCommitted, writeBackSuperblockRespNext};
-
-// The superblock that goes to the disk, or the number of a no.
-pub enum NewSuperblock {
-    Is(Superblock),
-    Refused(u8),
-}
 
 impl Ready {
     // What both commits ask: none in flight, every journal write answered, no entry frozen.

@@ -1,5 +1,5 @@
 // Advance and Replay, as far as the record goes: entries are counted here and lie in lent memory.
-use super::ready::Ready;
+use super::Ready;
 use super::sums::fits;
 use memory::Count;
 use memory::Counted;

@@ -1,7 +1,7 @@
 // Freeze, and ReceiveFrozenLoc.
-use super::frozen::Frozen;
-use super::frozen::MaybeLocation;
-use super::ready::Ready;
+use super::Frozen;
+use super::MaybeLocation;
+use super::Ready;
 use layout::Geometry;
 use layout::Location;
 ghost use mathlib.Core.Path.{_≡_};

@@ -1,8 +1,8 @@
 // Question 2's test of the record: 000's InvReady, clause by clause in its order, and what the record adds. The clauses that tie a commit's
 // id, status and new superblock to one another are met by the type.
-use super::commit::Commit;
-use super::frozen::Frozen;
-use super::ready::Ready;
+use super::Commit;
+use super::Frozen;
+use super::Ready;
 use super::ring::is_pos_add;
 use super::sums::fits;
 use super::sums::less;

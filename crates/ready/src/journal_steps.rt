@@ -1,6 +1,7 @@
 // Journal writes: WriteBackJournalReq and WriteBackJournalResp.
-use super::entries::Bodies;
-use super::ready::Ready;
+use super::Bodies;
+use super::JournalWrite;
+use super::Ready;
 use super::ring::pos_add;
 use super::sums::blocks_of;
 use super::sums::fits;
@@ -9,16 +10,6 @@ use superblock::MaybeId;
 use tables::IdTable;
 ghost use mathlib.Core.Path.{_≡_};
 ghost use Rattle.ready.specs.JournalSteps.{mayWrite, askRoom, askWriteBackJournalReq, writeBackJournalReq, askIds, joinedIds, writeBackJournalReqNext, writeBackJournalRespNext};
-
-// The range that goes to the disk: its first block, its blocks, and the blocks that are written then; or the number of a no.
-pub enum JournalWrite {
-    Range {
-        start: u64,
-        blocks: u64,
-        written: u64,
-    },
-    Refused(u8),
-}
 
 // Question 8 of the ids: those that are new to the set find room.
 fn ask_ids(writes: IdTable, id1: u64, id2: MaybeId) -> u8

@@ -6,23 +6,79 @@
 //   JournalWrite, NewSuperblock      what a step sends, or the number of the question that was answered no
 // A step of the machine is more than what is here: it asks questions 1, 2 and 3 first, looks at lent memory, and moves sync requests. Bytes
 // and entries lie in lent memory beside the record; what was found there comes as numbers. Every function is total.
-mod commit;
 mod commit_steps;
-mod entries;
+mod counts;
 mod entry_steps;
 mod freeze_steps;
-mod frozen;
+mod freezing;
+mod in_flight;
 mod inv;
 mod journal_steps;
-mod ready;
 mod ring;
 mod sums;
+mod working;
 
-pub use commit::Commit;
-pub use commit_steps::NewSuperblock;
-pub use entries::Bodies;
-pub use entries::Entries;
-pub use frozen::Frozen;
-pub use frozen::MaybeLocation;
-pub use journal_steps::JournalWrite;
-pub use ready::Ready;
+use layout::Location;
+use memory::Count;
+use superblock::Superblock;
+use tables::IdTable;
+
+// The record of a machine at work, field by field as source 000 has it.
+pub struct Ready {
+    pub superblock: Superblock,
+    pub whichSuperblock: u64,
+    pub writtenJournalLen: u64,
+    pub frozen: Frozen,
+    pub commit: Commit,
+    pub entries: Entries,
+    pub writes: IdTable,
+}
+
+// What a freeze has set aside: up to which position, and the table's new location once that is received.
+pub struct Frozen {
+    pub isFrozen: bool,
+    pub frozenJournalPosition: u64,
+    pub frozenLoc: MaybeLocation,
+}
+
+pub enum MaybeLocation {
+    NoLocation,
+    Received(Location),
+}
+
+// A commit in flight: its kind, the id of its superblock write, and the superblock.
+pub enum Commit {
+    CommitNone,
+    CommitAdvanceLog { id: u64, new: Superblock },
+    CommitAdvanceLocation { id: u64, new: Superblock },
+}
+
+// How many entries lie in lent memory: pending ones, of which the first are frozen, and replay entries, of which the first are taken.
+pub struct Entries {
+    pub pending: u64,
+    pub frozen: u64,
+    pub replay: u64,
+    pub taken: Count,
+}
+
+// The bytes of entries in pending memory, as they were found there: of the frozen ones, and of all.
+pub struct Bodies {
+    pub frozen: u64,
+    pub pending: u64,
+}
+
+// The range that goes to the disk: its first block, its blocks, and the blocks that are written then; or the number of a no.
+pub enum JournalWrite {
+    Range {
+        start: u64,
+        blocks: u64,
+        written: u64,
+    },
+    Refused(u8),
+}
+
+// The superblock that goes to the disk, or the number of a no.
+pub enum NewSuperblock {
+    Is(Superblock),
+    Refused(u8),
+}

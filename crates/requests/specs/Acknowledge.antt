@@ -5,25 +5,25 @@ use mathlib.Core.List.{List}
 use lib.ListN.{take}
 use Rattle.laws.specs.Choice.{ask, andThen}
 use Rattle.laws.specs.Sets.{idsOf}
-use Rattle.interval.specs.declared.interval.JournalInterval.{JournalInterval}
+use Rattle.interval.specs.declared.JournalInterval.{JournalInterval}
 use Rattle.interval.specs.Interval.{interval}
-use Rattle.superblock.specs.declared.disk_op.MaybeSuperblock.{MaybeSuperblock}
-use Rattle.superblock.specs.declared.disk_op.MaybeSuperblock.the-variants as slot
-use Rattle.superblock.specs.declared.disk_op.SuperblockRead.{SuperblockRead}
-use Rattle.superblock.specs.declared.disk_op.SuperblockRead.the-variants as read
+use Rattle.superblock.specs.declared.MaybeSuperblock.{MaybeSuperblock}
+use Rattle.superblock.specs.declared.MaybeSuperblock.the-variants as slot
+use Rattle.superblock.specs.declared.SuperblockRead.{SuperblockRead}
+use Rattle.superblock.specs.declared.SuperblockRead.the-variants as read
 use Rattle.superblock.specs.Superblock.{sameSuperblock}
 use Rattle.journal.specs.Memory.{askReadable}
-use Rattle.tables.specs.declared.interval_table.IntervalTable.{IntervalTable}
-use Rattle.tables.specs.declared.interval_table.Held.{Held}
-use Rattle.tables.specs.declared.interval_table.Held.the-variants as held
+use Rattle.tables.specs.declared.IntervalTable.{IntervalTable}
+use Rattle.tables.specs.declared.Held.{Held}
+use Rattle.tables.specs.declared.Held.the-variants as held
 use Rattle.tables.specs.Rows.{placeOf}
 use Rattle.tables.specs.IdTable.{idSet, removedId}
 use Rattle.tables.specs.IntervalTable.{intervalMap, heldOf, removedInterval}
-use Rattle.requests.specs.declared.slots.Slots.{Slots}
-use Rattle.requests.specs.declared.slots.SuperblockReads.{SuperblockReads}
-use Rattle.requests.specs.declared.slots.SuperblockWrite.{SuperblockWrite}
-use Rattle.requests.specs.declared.slots.SuperblockWrite.the-variants as write
-use Rattle.requests.specs.declared.slots.SuperblockWrites.{SuperblockWrites}
+use Rattle.requests.specs.declared.Slots.{Slots}
+use Rattle.requests.specs.declared.SuperblockReads.{SuperblockReads}
+use Rattle.requests.specs.declared.SuperblockWrite.{SuperblockWrite}
+use Rattle.requests.specs.declared.SuperblockWrite.the-variants as write
+use Rattle.requests.specs.declared.SuperblockWrites.{SuperblockWrites}
 use Rattle.requests.specs.Slots.{askWhich, slotAt, readsAt, putReads, writeAt, isWrite}
 
 -- AckReadSuperblock: `which`; an id that waits in that slot's reads; whole only where the slot holds a superblock

@@ -5,20 +5,20 @@ use lib.Dec.{eqb}
 use lib.ListN.{take}
 use Rattle.laws.specs.Choice.{also, either, ask, andThen}
 use Rattle.laws.specs.Sets.{idsOf}
-use Rattle.layout.specs.declared.geometry.Geometry.{Geometry}
-use Rattle.interval.specs.declared.interval.JournalInterval.{JournalInterval}
-use Rattle.interval.specs.declared.answer.MaybeInterval.{MaybeInterval}
-use Rattle.interval.specs.declared.answer.MaybeInterval.the-variants as part
+use Rattle.layout.specs.declared.Geometry.{Geometry}
+use Rattle.interval.specs.declared.JournalInterval.{JournalInterval}
+use Rattle.interval.specs.declared.MaybeInterval.{MaybeInterval}
+use Rattle.interval.specs.declared.MaybeInterval.the-variants as part
 use Rattle.interval.specs.Answer.{maybeInterval}
 use Rattle.interval.specs.Interval.{validJournalInterval, contiguousJournalInterval, JournalFrontInterval, JournalBackInterval}
-use Rattle.superblock.specs.declared.disk_op.MaybeId.{MaybeId}
-use Rattle.superblock.specs.declared.disk_op.MaybeId.the-variants as maybe
-use Rattle.tables.specs.declared.interval_table.IntervalTable.{IntervalTable}
+use Rattle.superblock.specs.declared.MaybeId.{MaybeId}
+use Rattle.superblock.specs.declared.MaybeId.the-variants as maybe
+use Rattle.tables.specs.declared.IntervalTable.{IntervalTable}
 use Rattle.tables.specs.Rows.{hasRoom, askAdd}
 use Rattle.tables.specs.IdTable.{idSet, addedId}
 use Rattle.tables.specs.IntervalTable.{addedInterval}
-use Rattle.requests.specs.declared.slots.SuperblockReads.{SuperblockReads}
-use Rattle.requests.specs.declared.slots.SuperblockWrites.{SuperblockWrites}
+use Rattle.requests.specs.declared.SuperblockReads.{SuperblockReads}
+use Rattle.requests.specs.declared.SuperblockWrites.{SuperblockWrites}
 use Rattle.requests.specs.Limits.{MostSuperblockReads, MostJournalReads, MostJournalWrites}
 use Rattle.requests.specs.Slots.{askWhich, readsAt, putReads, isWrite}
 

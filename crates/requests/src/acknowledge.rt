@@ -1,11 +1,11 @@
 // What the disk does when it answers a request (001's AckRead and AckWrite), after questions 1 and 2. Each function decides by value and
 // shared slices and asks the other questions; none is a step by itself.
-use super::slots::Slots;
-use super::slots::SuperblockReads;
-use super::slots::SuperblockWrite;
-use super::slots::SuperblockWrites;
-use super::slots::ask_which;
-use super::slots::is_write;
+use super::Slots;
+use super::SuperblockReads;
+use super::SuperblockWrite;
+use super::SuperblockWrites;
+use super::by_slot::ask_which;
+use super::by_slot::is_write;
 use interval::JournalInterval;
 use superblock::MaybeSuperblock;
 use superblock::SuperblockRead;

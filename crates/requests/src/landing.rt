@@ -1,8 +1,8 @@
 // A superblock write lands: its slot holds it (001's ProcessWriteSuperblock). The write stays in flight, and may land again.
-use super::slots::Slots;
-use super::slots::SuperblockWrite;
-use super::slots::SuperblockWrites;
-use super::slots::ask_which;
+use super::Slots;
+use super::SuperblockWrite;
+use super::SuperblockWrites;
+use super::by_slot::ask_which;
 use superblock::MaybeSuperblock;
 ghost use mathlib.Core.Path.{_≡_};
 ghost use Rattle.requests.specs.Landing.{inFlight, landingOn, askLand, slotsLanded};

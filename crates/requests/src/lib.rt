@@ -5,10 +5,10 @@
 //   ask_land, slots_landed                        what a landing asks, and the slots after it
 // Each decides by value, after questions 1 and 2. Every function is total.
 mod acknowledge;
+mod by_slot;
 mod landing;
 mod limits;
 mod receive;
-mod slots;
 
 pub use acknowledge::ask_ack_read_journal;
 pub use acknowledge::ask_ack_read_superblock;
@@ -30,7 +30,30 @@ pub use receive::ask_recv_write_journal;
 pub use receive::ask_recv_write_superblock;
 pub use receive::read_received;
 pub use receive::write_received;
-pub use slots::Slots;
-pub use slots::SuperblockReads;
-pub use slots::SuperblockWrite;
-pub use slots::SuperblockWrites;
+use superblock::MaybeSuperblock;
+use superblock::Superblock;
+use tables::IdTable;
+
+// What the disk has twice, once for each slot: what the slot holds,
+pub struct Slots {
+    pub first: MaybeSuperblock,
+    pub second: MaybeSuperblock,
+}
+
+// the reads of it that wait,
+pub struct SuperblockReads {
+    pub first: IdTable,
+    pub second: IdTable,
+}
+
+// A write of a superblock in flight: its id and what it writes.
+pub enum SuperblockWrite {
+    Writing { id: u64, superblock: Superblock },
+    NoWrite,
+}
+
+// and the write of it, if one is in flight.
+pub struct SuperblockWrites {
+    pub first: SuperblockWrite,
+    pub second: SuperblockWrite,
+}

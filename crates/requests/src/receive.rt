@@ -1,12 +1,12 @@
 // What the disk does with a request that it receives (001's RecvRead and RecvWrite), after questions 1 and 2. Each function decides by value
 // and asks the other questions; none is a step by itself.
+use super::SuperblockReads;
+use super::SuperblockWrites;
+use super::by_slot::ask_which;
+use super::by_slot::is_write;
 use super::limits::MOST_JOURNAL_READS;
 use super::limits::MOST_JOURNAL_WRITES;
 use super::limits::MOST_SUPERBLOCK_READS;
-use super::slots::SuperblockReads;
-use super::slots::SuperblockWrites;
-use super::slots::ask_which;
-use super::slots::is_write;
 use interval::JournalInterval;
 use interval::MaybeInterval;
 use layout::Geometry;

@@ -9,7 +9,7 @@ use mathlib.Core.List.{List}
 use mathlib.Core.Option.{Option, none, some}
 use mathlib.Core.Option
 use lib.ListN.{length, getD}
-use Rattle.layout.specs.declared.geometry.Geometry.{Geometry}
+use Rattle.layout.specs.declared.Geometry.{Geometry}
 use Rattle.interval.specs.Journal.{JournalBlock}
 use Rattle.laws.specs.Sets.{at, put}
 use Rattle.codec.specs.Codec.{JournalEntry, JournalRange, Codec}

@@ -7,13 +7,13 @@ use mathlib.Core.Path.{_≡_}
 use mathlib.Core.List.{List}
 use mathlib.Core.Option.{Option, none, some}
 use lib.ListN.{length, getD}
-use Rattle.layout.specs.declared.geometry.Geometry.{Geometry}
+use Rattle.layout.specs.declared.Geometry.{Geometry}
 use Rattle.layout.specs.Geometry.{NumJournalBlocks}
-use Rattle.interval.specs.declared.interval.JournalInterval.{JournalInterval}
+use Rattle.interval.specs.declared.JournalInterval.{JournalInterval}
 use Rattle.interval.specs.Interval.{interval}
 use Rattle.interval.specs.Facts.{ContiguousJournalInterval, InCyclicRange}
 use Rattle.interval.specs.Journal.{JournalBlock, JournalUpdate}
-use Rattle.superblock.specs.declared.superblock.Superblock.{Superblock}
+use Rattle.superblock.specs.declared.Superblock.{Superblock}
 use Rattle.laws.specs.Sets.{Ids, no-ids, join, leave, Map, no-keys, bind, unbind, Two, both, at, put}
 use Rattle.codec.specs.Codec.{JournalRange, Disk-HasJournalRange, Disk-JournalRange}
 

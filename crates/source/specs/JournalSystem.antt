@@ -6,13 +6,13 @@ use mathlib.Core.Path.{_≡_, sym, subst}
 use mathlib.Core.List.{List, [], _++_}
 use mathlib.Core.Option.{Option, none, some}
 use Rattle.laws.specs.Choice.{also, split-eq}
-use Rattle.layout.specs.declared.geometry.Geometry.{Geometry}
-use Rattle.layout.specs.declared.location.Location.{Location}
+use Rattle.layout.specs.declared.Geometry.{Geometry}
+use Rattle.layout.specs.declared.Location.{Location}
 use Rattle.layout.specs.Journal.{JournalPosAdd}
-use Rattle.interval.specs.declared.interval.JournalInterval.{JournalInterval}
+use Rattle.interval.specs.declared.JournalInterval.{JournalInterval}
 use Rattle.interval.specs.Interval.{interval}
 use Rattle.interval.specs.Facts.{ValidJournalInterval}
-use Rattle.superblock.specs.declared.superblock.Superblock.{Superblock}
+use Rattle.superblock.specs.declared.Superblock.{Superblock}
 use Rattle.superblock.specs.Superblock.{IncrementSuperblockCounter, SelectSuperblock, sameSuperblock}
 use Rattle.superblock.specs.Laws.{WFSuperblock, selects-second, selects-first, selected-second, selected-first}
 use Rattle.laws.specs.Sets.{Map, each, at}

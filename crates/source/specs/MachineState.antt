@@ -3,8 +3,8 @@ use Prim.Native.Nat.{ℕ}
 use mathlib.Core.Bool.{Bool}
 use mathlib.Core.List.{List}
 use mathlib.Core.Option.{Option}
-use Rattle.layout.specs.declared.location.Location.{Location}
-use Rattle.superblock.specs.declared.superblock.Superblock.{Superblock}
+use Rattle.layout.specs.declared.Location.{Location}
+use Rattle.superblock.specs.declared.Superblock.{Superblock}
 use Rattle.laws.specs.Sets.{Ids, Map, Two}
 use Rattle.codec.specs.Codec.{JournalEntry, JournalRange}
 use Rattle.source.specs.JournalDisk.{ReqId}

@@ -9,12 +9,12 @@ use lib.ListN.{length}
 use Rattle.laws.specs.Fold.{sum}
 use Rattle.laws.specs.Cut.{lengths}
 use Rattle.laws.specs.Sets.{Ids, no-ids, join, Map, no-keys, bind, keys, Two, both, at, put}
-use Rattle.layout.specs.declared.geometry.Geometry.{Geometry}
+use Rattle.layout.specs.declared.Geometry.{Geometry}
 use Rattle.layout.specs.Geometry.{NumJournalBlocks}
-use Rattle.interval.specs.declared.interval.JournalInterval.{JournalInterval}
+use Rattle.interval.specs.declared.JournalInterval.{JournalInterval}
 use Rattle.interval.specs.Facts.{ContiguousJournalInterval}
 use Rattle.interval.specs.Overlap.{journalIntervalOverlap, journalCyclicIntervalOverlap}
-use Rattle.superblock.specs.declared.superblock.Superblock.{Superblock}
+use Rattle.superblock.specs.declared.Superblock.{Superblock}
 use Rattle.codec.specs.Codec.{BlockSize, JournalEntry, JournalRange, SizedBlocks, Sized, EntriesFit}
 use Rattle.source.specs.JournalDisk as D
 use Rattle.source.specs.JournalDisk.{ReqId, ReqWriteSuperblockId}

@@ -2,13 +2,13 @@
 use Prim.Native.Nat.{ℕ}
 use mathlib.Core.List.{List}
 use Rattle.laws.specs.Choice.{andThen, ask}
-use Rattle.layout.specs.declared.geometry.Geometry.{Geometry}
+use Rattle.layout.specs.declared.Geometry.{Geometry}
 use Rattle.journal.specs.Memory.{askJournal}
 use Rattle.machine.specs.Lent as machine
 use Rattle.machine.specs.Questions.{askMachine}
 use Rattle.disk.specs.Questions.{askState}
 use Rattle.joined.specs.Joined.{joinedOk}
-use Rattle.store.specs.declared.store.Store.{Store}
+use Rattle.store.specs.declared.Store.{Store}
 
 -- pending bytes and lengths, pieces, replay bytes and lengths; blocks and marks
 pub record Lent : Type 0 where

@@ -4,32 +4,32 @@ use Prim.Native.Nat.{ℕ}
 use mathlib.Core.Bool.{Bool, cond}
 use mathlib.Core.List.{List}
 use Rattle.laws.specs.Choice.{andThen, unless}
-use Rattle.layout.specs.declared.geometry.Geometry.{Geometry}
-use Rattle.layout.specs.declared.location.Location.{Location}
-use Rattle.interval.specs.declared.interval.JournalInterval.{JournalInterval}
+use Rattle.layout.specs.declared.Geometry.{Geometry}
+use Rattle.layout.specs.declared.Location.{Location}
+use Rattle.interval.specs.declared.JournalInterval.{JournalInterval}
 use Rattle.interval.specs.Interval.{interval}
-use Rattle.superblock.specs.declared.disk_op.MaybeId.{MaybeId}
-use Rattle.superblock.specs.declared.disk_op.SuperblockRead.{SuperblockRead}
-use Rattle.superblock.specs.declared.disk_op.JournalRead.{JournalRead}
-use Rattle.superblock.specs.declared.disk_op.JournalRead.the-variants as read
-use Rattle.superblock.specs.declared.disk_op.DiskOp.{DiskOp}
-use Rattle.superblock.specs.declared.disk_op.DiskOp.the-variants as op
+use Rattle.superblock.specs.declared.MaybeId.{MaybeId}
+use Rattle.superblock.specs.declared.SuperblockRead.{SuperblockRead}
+use Rattle.superblock.specs.declared.JournalRead.{JournalRead}
+use Rattle.superblock.specs.declared.JournalRead.the-variants as read
+use Rattle.superblock.specs.declared.DiskOp.{DiskOp}
+use Rattle.superblock.specs.declared.DiskOp.the-variants as op
 use Rattle.journal.specs.Memory.{updateMarks, copyBlocks}
 use Rattle.memory.specs.Given.{memory, countOf}
-use Rattle.loading.specs.declared.other.Paged.{Paged}
-use Rattle.ready.specs.declared.entries.Bodies.{Bodies}
+use Rattle.loading.specs.declared.Paged.{Paged}
+use Rattle.ready.specs.declared.Bodies.{Bodies}
 use Rattle.ready.specs.JournalSteps.{sentBlocks}
-use Rattle.machine.specs.declared.machine.Machine.{Machine}
-use Rattle.machine.specs.declared.machine.MachineAnswer.{MachineAnswer}
-use Rattle.machine.specs.declared.machine.MachineAnswer.the-variants as machine
-use Rattle.machine.specs.declared.machine.MachineStepped.{MachineStepped}
+use Rattle.machine.specs.declared.Machine.{Machine}
+use Rattle.machine.specs.declared.MachineAnswer.{MachineAnswer}
+use Rattle.machine.specs.declared.MachineAnswer.the-variants as machine
+use Rattle.machine.specs.declared.MachineStepped.{MachineStepped}
 use Rattle.machine.specs.Machine.{initialMachine}
 use Rattle.machine.specs.Loading.{askPageInJournalReqStep, pageInJournalReqOp, pageInJournalReqMachine, pagedIn, pageInJournalRespOp, pageInJournalRespMachine, askPageInSuperblockReqStep, pageInSuperblockReqOp, pageInSuperblockReqMachine, askPageInSuperblockRespStep, pageInSuperblockRespOp, pageInSuperblockRespMachine, askFinishLoadingSuperblockPhaseStep, finishLoadingSuperblockPhaseMachine, askLoaded, finishLoadingOtherPhaseMachine, loadedReplayBytes, loadedReplayLens, askAskAgainStep, askAgainMachine}
 use Rattle.machine.specs.Working.{sentStart, askWriteBackJournalReqStep, writeBackJournalReqOp, writeBackJournalReqMachine, sentRange, movedBytes, movedLens, writeBackJournalRespOp, writeBackJournalRespMachine, askAdvanceLogStep, advanceLogOp, advanceLogMachine, askAdvanceLocationStep, advanceLocationOp, advanceLocationMachine, askWriteBackSuperblockRespStep, writeBackSuperblockRespOp, writeBackSuperblockRespMachine, askFreezeStep, freezeMachine, askReceiveFrozenLocStep, receiveFrozenLocMachine, askAdvanceStep, advanceMachine, appendedBytes, appendedLens, givenOf, askReplayStep, replayMachine}
 use Rattle.machine.specs.Sync.{askPushSyncReq, pushSyncReqMachine, askPopSyncReq, popSyncReqMachine}
-use Rattle.disk.specs.declared.disk.Disk.{Disk}
-use Rattle.disk.specs.declared.disk.DiskAnswer.{DiskAnswer}
-use Rattle.disk.specs.declared.disk.DiskAnswer.the-variants as disk
+use Rattle.disk.specs.declared.Disk.{Disk}
+use Rattle.disk.specs.declared.DiskAnswer.{DiskAnswer}
+use Rattle.disk.specs.declared.DiskAnswer.the-variants as disk
 use Rattle.requests.specs.Slots.{slotAt, slotOf}
 use Rattle.requests.specs.Acknowledge.{readFrom, heldInterval, askAckReadJournal}
 use Rattle.disk.specs.Next.{ackReadJournalNext}
@@ -38,8 +38,8 @@ use Rattle.requests.specs.Landing.{askLand}
 use Rattle.disk.specs.Next.{landNext}
 use Rattle.crash.specs.Picture.{crashedBlocks, crashedMarks}
 use Rattle.crash.specs.Whole.{crashedDisk}
-use Rattle.store.specs.declared.store.Store.{Store}
-use Rattle.store.specs.declared.store.StoreStepped.{StoreStepped}
+use Rattle.store.specs.declared.Store.{Store}
+use Rattle.store.specs.declared.StoreStepped.{StoreStepped}
 use Rattle.store.specs.Lent.{Lent, withPending, withPieces, withReplay, withJournal}
 use Rattle.store.specs.Store.{store, refused, answered}
 

@@ -2,12 +2,12 @@
 use Prim.Native.Nat.{ℕ}
 use mathlib.Core.Bool.{cond}
 use lib.Dec.{eqb}
-use Rattle.superblock.specs.declared.disk_op.DiskOp.{DiskOp}
-use Rattle.machine.specs.declared.machine.Machine.{Machine}
-use Rattle.disk.specs.declared.disk.Disk.{Disk}
-use Rattle.store.specs.declared.store.Store.{Store}
-use Rattle.store.specs.declared.store.StoreAnswer.the-variants as answer
-use Rattle.store.specs.declared.store.StoreStepped.{StoreStepped}
+use Rattle.superblock.specs.declared.DiskOp.{DiskOp}
+use Rattle.machine.specs.declared.Machine.{Machine}
+use Rattle.disk.specs.declared.Disk.{Disk}
+use Rattle.store.specs.declared.Store.{Store}
+use Rattle.store.specs.declared.StoreAnswer.the-variants as answer
+use Rattle.store.specs.declared.StoreStepped.{StoreStepped}
 
 abbrev pub store : Machine → Disk → Store
 store m d = record { machine = m; disk = d }

@@ -5,17 +5,17 @@ use mathlib.Core.Bool.{Bool, cond}
 use mathlib.Core.List.{List}
 use lib.Dec.{eqb}
 use Rattle.laws.specs.Choice.{andThen, unless}
-use Rattle.layout.specs.declared.geometry.Geometry.{Geometry}
-use Rattle.layout.specs.declared.location.Location.{Location}
-use Rattle.superblock.specs.declared.disk_op.MaybeId.{MaybeId}
-use Rattle.superblock.specs.declared.disk_op.DiskOp.the-variants as op
+use Rattle.layout.specs.declared.Geometry.{Geometry}
+use Rattle.layout.specs.declared.Location.{Location}
+use Rattle.superblock.specs.declared.MaybeId.{MaybeId}
+use Rattle.superblock.specs.declared.DiskOp.the-variants as op
 use Rattle.journal.specs.Memory.{askJournal}
-use Rattle.ready.specs.declared.entries.Bodies.{Bodies}
+use Rattle.ready.specs.declared.Bodies.{Bodies}
 use Rattle.machine.specs.Questions.{bodiesOf}
 use Rattle.machine.specs.Loading.{askLoaded}
 use Rattle.machine.specs.Working.{givenOf, askAdvanceStep}
-use Rattle.store.specs.declared.store.Store.{Store}
-use Rattle.store.specs.declared.store.StoreStepped.{StoreStepped}
+use Rattle.store.specs.declared.Store.{Store}
+use Rattle.store.specs.declared.StoreStepped.{StoreStepped}
 use Rattle.store.specs.Store.{refused, accepted}
 use Rattle.store.specs.Lent.{Lent, askStore}
 use Rattle.store.specs.Steps as one

@@ -1,6 +1,6 @@
 // The steps that leave lent memory alone, after questions 1 and 2; none is a step by itself.
-use super::store::Store;
-use super::store::StoreStepped;
+use super::Store;
+use super::StoreStepped;
 use disk::DiskAnswer;
 use layout::Geometry;
 use layout::Location;

@@ -1,5 +1,5 @@
 // Questions 1 and 2, of all that a call is handed.
-use super::store::Store;
+use super::Store;
 use joined::joined;
 use layout::Geometry;
 use machine::Asked;

@@ -1,7 +1,7 @@
 // The steps that look at lent memory or alter it, after questions 1 and 2; none is a step by itself. Memory is altered after the last yes.
-use super::store::Store;
-use super::store::StoreAnswer;
-use super::store::StoreStepped;
+use super::Store;
+use super::StoreAnswer;
+use super::StoreStepped;
 use crash::crash_memory;
 use crash::no_requests;
 use disk::JournalAnswer;
@@ -20,7 +20,7 @@ ghost use mathlib.Core.Path.{_≡_};
 ghost use lib.ListN.{take, drop};
 ghost use Rattle.laws.specs.Choice.{unless};
 ghost use Rattle.laws.specs.Splice.{splice};
-ghost use Rattle.superblock.specs.declared.disk_op.DiskOp.the-variants.{NoDiskOp};
+ghost use Rattle.superblock.specs.declared.DiskOp.the-variants.{NoDiskOp};
 ghost use Rattle.journal.specs.Memory.{updateMarks};
 ghost use Rattle.memory.specs.Given.{memory, countOf};
 ghost use Rattle.writer.specs.Ring.{putRange};

@@ -6,9 +6,9 @@ use native.Mathlib.Omega.{arith}
 use lib.Dec.{eqb}
 use borrow.Author.Tests.{leb-true, le-leb, ltb-true, lt-ltb, eq-eqb, ne-eqb, eqb-true}
 use Rattle.laws.specs.Choice.{also-left, also-right, also-both, by-eqb}
-use Rattle.layout.specs.declared.geometry.Geometry.{Geometry}
+use Rattle.layout.specs.declared.Geometry.{Geometry}
 use Rattle.layout.specs.Laws.{ValidIndirectionTableLocation, table-location-facts, facts-table-location, same-location, location-same}
-use Rattle.superblock.specs.declared.superblock.Superblock.{Superblock}
+use Rattle.superblock.specs.declared.Superblock.{Superblock}
 use Rattle.superblock.specs.Superblock.{IncrementSuperblockCounter, increments1, SelectSuperblockIndex, SelectSuperblock, wfSuperblock, sameSuperblock}
 
 pub record WFSuperblock (g : Geometry) (s : Superblock) : Type 0 where

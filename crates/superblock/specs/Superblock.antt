@@ -4,12 +4,12 @@ use mathlib.Core.Bool.{Bool, cond}
 use mathlib.Core.Option.{Option}
 use lib.Dec.{leb, ltb, eqb}
 use Rattle.laws.specs.Choice.{also}
-use Rattle.layout.specs.declared.geometry.Geometry.{Geometry}
+use Rattle.layout.specs.declared.Geometry.{Geometry}
 use Rattle.layout.specs.Geometry.{NumJournalBlocks}
 use Rattle.layout.specs.Location.{sameLocation, validIndirectionTableLocation}
-use Rattle.interval.specs.declared.interval.JournalInterval.{JournalInterval}
+use Rattle.interval.specs.declared.JournalInterval.{JournalInterval}
 use Rattle.interval.specs.Interval.{JournalFrontInterval, JournalBackInterval}
-use Rattle.superblock.specs.declared.superblock.Superblock.{Superblock}
+use Rattle.superblock.specs.declared.Superblock.{Superblock}
 
 -- after the largest 64-bit number comes 0
 unfoldable pub IncrementSuperblockCounter : ℕ → ℕ

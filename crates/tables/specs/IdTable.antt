@@ -5,7 +5,7 @@ use mathlib.Core.Path.{_≡_}
 use lib.Dec.{ltb}
 use lib.ListN.{length, take, set, replicate}
 use Rattle.laws.specs.Sets.{Ids, idsOf}
-use Rattle.tables.specs.declared.id_table.IdTable.{IdTable}
+use Rattle.tables.specs.declared.IdTable.{IdTable}
 use Rattle.tables.specs.Rows.{filled, inUse}
 
 -- the source's set

@@ -6,12 +6,12 @@ use mathlib.Core.Option.{Option, none, some}
 use lib.ListN.{length, take, replicate}
 use Rattle.laws.specs.Fold.{every}
 use Rattle.laws.specs.Sets.{Map}
-use Rattle.layout.specs.declared.geometry.Geometry.{Geometry}
-use Rattle.interval.specs.declared.interval.JournalInterval.{JournalInterval}
+use Rattle.layout.specs.declared.Geometry.{Geometry}
+use Rattle.interval.specs.declared.JournalInterval.{JournalInterval}
 use Rattle.interval.specs.Interval.{interval, contiguousJournalInterval}
-use Rattle.tables.specs.declared.interval_table.IntervalTable.{IntervalTable}
-use Rattle.tables.specs.declared.interval_table.Held.{Held}
-use Rattle.tables.specs.declared.interval_table.Held.the-variants as held
+use Rattle.tables.specs.declared.IntervalTable.{IntervalTable}
+use Rattle.tables.specs.declared.Held.{Held}
+use Rattle.tables.specs.declared.Held.the-variants as held
 use Rattle.tables.specs.Rows.{Rows, rowMap, addedRow, removedRow}
 
 -- the table as rows and back

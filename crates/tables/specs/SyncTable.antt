@@ -9,7 +9,7 @@ use lib.ListN.{length, take, replicate}
 use Rattle.laws.specs.Choice.{also}
 use Rattle.laws.specs.Fold.{every}
 use Rattle.laws.specs.Sets.{Map, each}
-use Rattle.tables.specs.declared.sync_table.SyncTable.{SyncTable}
+use Rattle.tables.specs.declared.SyncTable.{SyncTable}
 use Rattle.tables.specs.Rows.{Rows, rowMap, addedRow, removedRow}
 
 -- the table as rows and back

@@ -1,4 +1,5 @@
 // A table of ids.
+use super::IdTable;
 use super::ids::ask_add;
 use super::ids::ask_join;
 use super::ids::has;
@@ -11,12 +12,6 @@ ghost use Rattle.tables.specs.Rows.{placeOf, counted, hasRoom, askAdd, a
 ghost use Rattle.tables.specs.IdTable.{idSet, noIds, addedId, joinedId, removedId};
 
 const SIZE: usize = 16;
-
-// The first `count` ids are in use.
-pub struct IdTable {
-    pub ids: [u64; 16],
-    pub count: usize,
-}
 
 impl IdTable {
     pub fn empty() -> IdTable

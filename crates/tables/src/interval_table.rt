@@ -1,5 +1,7 @@
 // A table of ids with an interval each.
-use super::id_table::IdTable;
+use super::Held;
+use super::IdTable;
+use super::IntervalTable;
 use super::ids::ask_add;
 use super::ids::has;
 use super::ids::ok;
@@ -16,19 +18,6 @@ ghost use Rattle.tables.specs.Rows.{placeOf, counted, hasRoom, askAdd, s
 ghost use Rattle.tables.specs.IntervalTable.{intervalMap, noIntervals, validIntervals, heldOf, addedInterval, removedInterval};
 
 const SIZE: usize = 16;
-
-// The first `count` places are in use.
-pub struct IntervalTable {
-    pub ids: [u64; 16],
-    pub intervals: [JournalInterval; 16],
-    pub count: usize,
-}
-
-// The interval of an id, or nothing where the id isn't there.
-pub enum Held {
-    Is(JournalInterval),
-    Nothing,
-}
 
 impl IntervalTable {
     pub fn empty() -> IntervalTable

@@ -11,12 +11,35 @@ mod ids;
 mod interval_table;
 mod sync_table;
 
-pub use id_table::IdTable;
 pub use ids::distinct;
 pub use ids::find;
 pub use ids::member;
 pub use ids::within;
-pub use interval_table::Held;
-pub use interval_table::IntervalTable;
+use interval::JournalInterval;
 pub use interval_table::same_ids;
-pub use sync_table::SyncTable;
+
+// The first `count` ids are in use.
+pub struct IdTable {
+    pub ids: [u64; 16],
+    pub count: usize,
+}
+
+// The first `count` places are in use. A state is 1, 2 or 3.
+pub struct SyncTable {
+    pub ids: [u64; 32],
+    pub states: [u8; 32],
+    pub count: usize,
+}
+
+// The first `count` places are in use.
+pub struct IntervalTable {
+    pub ids: [u64; 16],
+    pub intervals: [JournalInterval; 16],
+    pub count: usize,
+}
+
+// The interval of an id, or nothing where the id isn't there.
+pub enum Held {
+    Is(JournalInterval),
+    Nothing,
+}

@@ -1,4 +1,5 @@
 // The table of sync requests. Nothing outside this file looks into it: find, add, remove and move states are all that is done to it.
+use super::SyncTable;
 use super::ids::ask_add;
 use super::ids::has;
 use super::ids::ok;
@@ -12,13 +13,6 @@ ghost use Rattle.tables.specs.Rows.{placeOf, counted, askAdd};
 ghost use Rattle.tables.specs.SyncTable.{stateMap, noSyncs, okState, validStates, orZero, addedSync, removedSync, moved, movedSyncs};
 
 const SIZE: usize = 32;
-
-// The first `count` places are in use. A state is 1, 2 or 3.
-pub struct SyncTable {
-    pub ids: [u64; 32],
-    pub states: [u8; 32],
-    pub count: usize,
-}
 
 impl SyncTable {
     pub fn empty() -> SyncTable

@@ -10,27 +10,27 @@ use Rattle.laws.specs.Splice.{splice}
 use Rattle.laws.specs.Around.{spliceAround}
 use Rattle.laws.specs.Cut.{cut, lengths}
 use Rattle.laws.specs.Fold.{sum, every}
-use Rattle.layout.specs.declared.geometry.Geometry.{Geometry}
-use Rattle.layout.specs.declared.answer.Position.{Position}
-use Rattle.layout.specs.declared.answer.Position.the-variants as position
-use Rattle.layout.specs.declared.answer.Decision.{Decision}
-use Rattle.layout.specs.declared.answer.Decision.the-variants as decision
+use Rattle.layout.specs.declared.Geometry.{Geometry}
+use Rattle.layout.specs.declared.Position.{Position}
+use Rattle.layout.specs.declared.Position.the-variants as position
+use Rattle.layout.specs.declared.Decision.{Decision}
+use Rattle.layout.specs.declared.Decision.the-variants as decision
 use Rattle.layout.specs.Answer.{positioned, decided}
 use Rattle.layout.specs.Geometry.{geometryOk, askGeometry}
 use Rattle.layout.specs.Journal.{JournalPosAdd, askCircular}
-use Rattle.interval.specs.declared.interval.JournalInterval.{JournalInterval}
-use Rattle.interval.specs.declared.answer.MaybeSpanned.{MaybeSpanned}
-use Rattle.interval.specs.declared.answer.MaybeSpanned.the-variants as maybe
+use Rattle.interval.specs.declared.JournalInterval.{JournalInterval}
+use Rattle.interval.specs.declared.MaybeSpanned.{MaybeSpanned}
+use Rattle.interval.specs.declared.MaybeSpanned.the-variants as maybe
 use Rattle.interval.specs.Answer.{maybeSpanned}
 use Rattle.interval.specs.Interval.{interval, validJournalInterval, JournalFrontInterval, JournalBackInterval, askInterval, askIntervals}
 use Rattle.interval.specs.Overlap.{journalIntervalOverlap, overlapParts, journalCyclicIntervalOverlap}
-use Rattle.superblock.specs.declared.superblock.Superblock.{Superblock}
+use Rattle.superblock.specs.declared.Superblock.{Superblock}
 use Rattle.superblock.specs.Superblock.{IncrementSuperblockCounter, increments1, SelectSuperblockIndex}
 use Rattle.range.specs.Form.{BlockSize, okLength, blocks, encode}
 use Rattle.range.specs.BrewDay.{one-entry}
 use Rattle.range.specs.Memory.{view}
-use Rattle.writer.specs.declared.answer.Written.{Written}
-use Rattle.writer.specs.declared.answer.Written.the-variants as write
+use Rattle.writer.specs.declared.Written.{Written}
+use Rattle.writer.specs.declared.Written.the-variants as write
 use Rattle.writer.specs.Answer.{written}
 use Rattle.lengths.specs.Held.{heldOk}
 use Rattle.lengths.specs.Entries.{entriesOk}

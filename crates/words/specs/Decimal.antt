@@ -11,9 +11,9 @@ use Rattle.laws.specs.Choice.{also, also-false, ruin}
 use Rattle.laws.specs.Fold.{every}
 use Rattle.laws.specs.Part.{drop-step, drop-end}
 use Rattle.words.specs.Line.{lies, bytesOf}
-use Rattle.words.specs.declared.word.Word.{Word}
-use Rattle.words.specs.declared.number.Parsed.{Parsed}
-use Rattle.words.specs.declared.number.Parsed.the-variants as parsed
+use Rattle.words.specs.declared.Word.{Word}
+use Rattle.words.specs.declared.Parsed.{Parsed}
+use Rattle.words.specs.declared.Parsed.the-variants as parsed
 
 -- a decimal digit
 unfoldable pub isDigit : ℕ → Bool

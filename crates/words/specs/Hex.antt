@@ -12,9 +12,9 @@ use Rattle.laws.specs.Choice.{also, also-left, also-right, also-both, also-asso
 use Rattle.laws.specs.Fold.{every}
 use Rattle.laws.specs.Splice.{splice, copy-turn}
 use Rattle.words.specs.Line.{lies, bytesOf}
-use Rattle.words.specs.declared.word.Word.{Word}
-use Rattle.words.specs.declared.number.Parsed.{Parsed}
-use Rattle.words.specs.declared.number.Parsed.the-variants as parsed
+use Rattle.words.specs.declared.Word.{Word}
+use Rattle.words.specs.declared.Parsed.{Parsed}
+use Rattle.words.specs.declared.Parsed.the-variants as parsed
 
 -- from one number to another
 unfoldable pub between : ℕ → ℕ → ℕ → Bool

@@ -9,7 +9,7 @@ use borrow.Author.Tests.{leb-true}
 use Rattle.laws.specs.Choice.{also, also-left, also-right}
 use Rattle.laws.specs.Fold.{same}
 use Rattle.words.specs.Place.{place, isBlank, notBlank}
-use Rattle.words.specs.declared.word.Word.{Word}
+use Rattle.words.specs.declared.Word.{Word}
 
 -- the next word from a place on: it begins at the first byte that isn't blank and ends at the next blank, or at the line's end
 unfoldable pub wordFrom : List ℕ → ℕ → Word

@@ -1,7 +1,7 @@
 // The bytes that a word says in hexadecimal.
-use super::number::Parsed;
-use super::word::Word;
-use super::word::lies_in;
+use super::Parsed;
+use super::Word;
+use super::words::lies_in;
 ghost use mathlib.Core.Bool.{true};
 ghost use mathlib.Core.Path.{_≡_};
 ghost use Prim.Native.Nat.{_+_, _*_};

@@ -8,12 +8,22 @@
 mod bytes;
 mod number;
 mod place;
-mod word;
+mod words;
 
 pub use bytes::hex;
-pub use number::Parsed;
 pub use number::decimal;
 pub use place::next;
-pub use word::Word;
-pub use word::is;
-pub use word::next_word;
+pub use words::is;
+pub use words::next_word;
+
+// From one place up to another, of one line.
+pub struct Word {
+    pub from: usize,
+    pub to: usize,
+}
+
+// What a word says: a number, or none.
+pub enum Parsed {
+    Is(u64),
+    Not,
+}

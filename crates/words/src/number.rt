@@ -1,14 +1,9 @@
 // The number that a word says.
-use super::word::Word;
-use super::word::lies_in;
+use super::Parsed;
+use super::Word;
+use super::words::lies_in;
 ghost use mathlib.Core.Path.{_≡_};
 ghost use Rattle.words.specs.Decimal.{decimalOf, numberOf, oneMore};
-
-// What a word says: a number, or none.
-pub enum Parsed {
-    Is(u64),
-    Not,
-}
 
 // One decimal digit more; the largest number is 18,446,744,073,709,551,615.
 fn one_more(v: u64, c: u8) -> Parsed

@@ -5,8 +5,8 @@ use mathlib.Core.Bool.{cond}
 use mathlib.Core.Path.{_≡_}
 use lib.Dec.{eqb}
 use borrow.Author.Tests.{eq-eqb, ne-eqb}
-use Rattle.writer.specs.declared.answer.Written.{Written}
-use Rattle.writer.specs.declared.answer.Written.the-variants as write
+use Rattle.writer.specs.declared.Written.{Written}
+use Rattle.writer.specs.declared.Written.the-variants as write
 
 abbrev pub written : ℕ → ℕ → Written
 written q b = cond (eqb q 0) (write.Blocks b) (write.Refused q)

@@ -11,8 +11,8 @@ use Rattle.laws.specs.Choice.{also, ask, also-left, also-right, also-both, ask-
 use Rattle.range.specs.Form.{MostEntries, MostEntryLength, LengthWidth, used, blocksFor, blocks, Good}
 use Rattle.range.specs.Memory.{view, total, good-view, blocksAt-view}
 use Rattle.lengths.specs.Entries.{Entries, entriesOk, entriesHeld, entries-facts, facts-entries, entries-bytes, entries-nothing}
-use Rattle.lengths.specs.declared.held.Held.the-variants as held
-use Rattle.writer.specs.declared.answer.Written.the-variants as write
+use Rattle.lengths.specs.declared.Held.the-variants as held
+use Rattle.writer.specs.declared.Written.the-variants as write
 use Rattle.writer.specs.declared.size.Sized.{Sized}
 use Rattle.writer.specs.declared.size.Sized.the-variants as sized
 use Rattle.writer.specs.Answer.{written, written-yes, written-no}

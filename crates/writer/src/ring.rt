@@ -1,5 +1,5 @@
 // A range into the journal's ring, run by run: the head, the lengths, the bodies, the padding. Each run is cut where the ring ends.
-use super::answer::Written;
+use super::Written;
 use super::size::Sized;
 use super::size::size_of_range;
 use layout::Geometry;

@@ -1,5 +1,5 @@
 // How large the range of some entries is.
-use super::answer::Written;
+use super::Written;
 use lengths::Held;
 use lengths::entries_held;
 use range::blocks_of;

@@ -2,14 +2,14 @@
 use Prim.Native.Nat.{ℕ}
 use mathlib.Core.List.{List}
 use mathlib.Core.Path.{_≡_, refl, sym, _∙_, ap}
-use Rattle.layout.specs.declared.geometry.Geometry.{Geometry}
-use Rattle.ready.specs.declared.entries.Bodies.{Bodies}
-use Rattle.machine.specs.declared.questions.Asked.{Asked}
-use Rattle.machine.specs.declared.questions.Asked.the-variants as found
+use Rattle.layout.specs.declared.Geometry.{Geometry}
+use Rattle.ready.specs.declared.Bodies.{Bodies}
+use Rattle.machine.specs.declared.Asked.{Asked}
+use Rattle.machine.specs.declared.Asked.the-variants as found
 use Rattle.machine.specs.Questions as questions
 use Rattle.machine.specs.Laws.Answers.{first-is, next-is}
-use Rattle.store.specs.declared.store.Store.{Store}
-use Rattle.store.specs.declared.store.StoreStepped.{StoreStepped}
+use Rattle.store.specs.declared.Store.{Store}
+use Rattle.store.specs.declared.StoreStepped.{StoreStepped}
 use Rattle.store.specs.Store.{refused}
 use Rattle.store.specs.Lent.{Lent, lent, askStore}
 use Rattle.store.specs.Whole.{bodies}

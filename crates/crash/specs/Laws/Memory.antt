@@ -11,10 +11,10 @@ use Rattle.laws.specs.Choice.{either}
 use Rattle.laws.specs.Fold.{every}
 use Rattle.laws.specs.Part.{take-min}
 use Rattle.laws.specs.Splice.{clipped}
-use Rattle.interval.specs.declared.interval.JournalInterval.{JournalInterval}
+use Rattle.interval.specs.declared.JournalInterval.{JournalInterval}
 use Rattle.journal.specs.Memory.{isMark, isOne, copyBlocks}
 use Rattle.journal.specs.Cells.{blockAt, cellAt, same-block}
-use Rattle.tables.specs.declared.interval_table.IntervalTable.{IntervalTable}
+use Rattle.tables.specs.declared.IntervalTable.{IntervalTable}
 use Rattle.crash.specs.Picture.{inRows, covered, picked, crashedBlocks, crashedMarks}
 use Rattle.crash.specs.Laws.Picked.{inRun, length-picked, picked-new, picked-old, picked-none, picked-every, picked-same, picked-own, picked-run}
 use Rattle.crash.specs.Laws.Rows.{row-run, row-bytes, rows-none, rows-step}

@@ -11,8 +11,8 @@ use lib.ListN.{length, take, getD, length-take}
 use lib.Seq.{getD-take}
 use Rattle.laws.specs.Choice.{also-left, also-right, also-both, either, either-left, either-right, either-cases, same-test, false-true}
 use Rattle.laws.specs.Part.{take-step}
-use Rattle.interval.specs.declared.interval.JournalInterval.{JournalInterval}
-use Rattle.tables.specs.declared.interval_table.IntervalTable.{IntervalTable}
+use Rattle.interval.specs.declared.JournalInterval.{JournalInterval}
+use Rattle.tables.specs.declared.IntervalTable.{IntervalTable}
 use Rattle.crash.specs.Picture.{inRow, inRows, covered}
 use Rattle.crash.specs.Laws.Picked.{inRun}
 

@@ -7,17 +7,17 @@ use lib.ListN.{replicate}
 use Rattle.laws.specs.Choice.{andThen, andThen-left, andThen-right, andThen-both, andThen-done, andThen-first, unless, unless-same, split-eq}
 use Rattle.laws.specs.Maps.{Values}
 use Rattle.laws.specs.Sets.{Map, Distinct, none-some}
-use Rattle.layout.specs.declared.geometry.Geometry.{Geometry}
-use Rattle.interval.specs.declared.interval.JournalInterval.{JournalInterval}
+use Rattle.layout.specs.declared.Geometry.{Geometry}
+use Rattle.interval.specs.declared.JournalInterval.{JournalInterval}
 use Rattle.interval.specs.Facts.{ContiguousJournalInterval}
 use Rattle.journal.specs.Memory.{askJournal}
 use Rattle.journal.specs.Asked.{journal-blocks, journal-marks, asked-journal}
-use Rattle.tables.specs.declared.interval_table.IntervalTable.{IntervalTable}
+use Rattle.tables.specs.declared.IntervalTable.{IntervalTable}
 use Rattle.tables.specs.Rows.{Counted}
 use Rattle.tables.specs.IntervalTable.{intervalMap, noIntervals}
 use Rattle.tables.specs.Laws.IntervalTables.{intervals-empty, sized-no-intervals, facts-valid}
-use Rattle.requests.specs.declared.slots.Slots.{Slots}
-use Rattle.disk.specs.declared.disk.Disk.{Disk}
+use Rattle.requests.specs.declared.Slots.{Slots}
+use Rattle.disk.specs.declared.Disk.{Disk}
 use Rattle.disk.specs.Disk.{idleDisk}
 use Rattle.disk.specs.Questions.{askState, askDisk}
 use Rattle.disk.specs.Laws.Questions.{DiskOk, disk-journal, asks-disk}

@@ -6,21 +6,21 @@ use mathlib.Core.List.{List, [], _++_}
 use borrow.Author.Tests.{eq-eqb, ne-eqb}
 use lib.ListN.{length, take, drop}
 use Rattle.laws.specs.Part.{part-cut}
-use Rattle.layout.specs.declared.geometry.Geometry.{Geometry}
-use Rattle.superblock.specs.declared.superblock.Superblock.{Superblock}
-use Rattle.superblock.specs.declared.disk_op.MaybeSuperblock.{MaybeSuperblock}
-use Rattle.superblock.specs.declared.disk_op.MaybeSuperblock.the-variants as slot
-use Rattle.loading.specs.declared.pieces.Piece.{Piece}
-use Rattle.loading.specs.declared.pieces.Piece.the-variants as piece
-use Rattle.loading.specs.declared.other.LoadingOther.{LoadingOther}
+use Rattle.layout.specs.declared.Geometry.{Geometry}
+use Rattle.superblock.specs.declared.Superblock.{Superblock}
+use Rattle.superblock.specs.declared.MaybeSuperblock.{MaybeSuperblock}
+use Rattle.superblock.specs.declared.MaybeSuperblock.the-variants as slot
+use Rattle.loading.specs.declared.Piece.{Piece}
+use Rattle.loading.specs.declared.Piece.the-variants as piece
+use Rattle.loading.specs.declared.LoadingOther.{LoadingOther}
 use Rattle.loading.specs.Other.{frontBlocks, backBlocks}
-use Rattle.lengths.specs.declared.held.Held.{Held}
-use Rattle.lengths.specs.declared.held.Held.the-variants as held
+use Rattle.lengths.specs.declared.Held.{Held}
+use Rattle.lengths.specs.declared.Held.the-variants as held
 use Rattle.lengths.specs.Entries.{part, part-is, entriesHeld, entries-bytes}
-use Rattle.memory.specs.declared.count.Count.{Count}
-use Rattle.machine.specs.declared.machine.Kind.{Kind}
-use Rattle.machine.specs.declared.machine.Kind.the-variants as kind
-use Rattle.machine.specs.declared.machine.Machine.{Machine}
+use Rattle.memory.specs.declared.Count.{Count}
+use Rattle.machine.specs.declared.Kind.{Kind}
+use Rattle.machine.specs.declared.Kind.the-variants as kind
+use Rattle.machine.specs.declared.Machine.{Machine}
 use Rattle.machine.specs.Lent.{Lent}
 use Rattle.digest.specs.Take.{takeByte, takes}
 use Rattle.digest.specs.Visible.{numberBytes, lengthsBytes, superblockBytes, slotBytes, markedBytes, pieceBytes, loadedBytes, heldAs, heldBytes, workingBytes, kindBytes}

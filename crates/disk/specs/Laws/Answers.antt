@@ -6,17 +6,17 @@ use mathlib.Core.List.{List}
 use mathlib.Core.Logic.{⊎-elim}
 use lib.Dec.{eqb}
 use Rattle.laws.specs.Choice.{andThen, andThen-first, andThen-done, unless, unless-kept, unless-done, refused-said, asked-yes, asked-no, asked-either, ruin}
-use Rattle.interval.specs.declared.interval.JournalInterval.{JournalInterval}
-use Rattle.superblock.specs.declared.disk_op.SuperblockRead.{SuperblockRead}
-use Rattle.superblock.specs.declared.disk_op.JournalRead.{JournalRead}
-use Rattle.tables.specs.declared.interval_table.IntervalTable.{IntervalTable}
-use Rattle.disk.specs.declared.disk.Disk.{Disk}
-use Rattle.disk.specs.declared.disk.DiskStepped.{DiskStepped}
-use Rattle.disk.specs.declared.disk.DiskAnswer.the-variants as answer
-use Rattle.disk.specs.declared.disk.SuperblockAcked.{SuperblockAcked}
-use Rattle.disk.specs.declared.disk.SuperblockAnswer.the-variants as superblockAnswer
-use Rattle.disk.specs.declared.disk.JournalAcked.{JournalAcked}
-use Rattle.disk.specs.declared.disk.JournalAnswer.the-variants as journalAnswer
+use Rattle.interval.specs.declared.JournalInterval.{JournalInterval}
+use Rattle.superblock.specs.declared.SuperblockRead.{SuperblockRead}
+use Rattle.superblock.specs.declared.JournalRead.{JournalRead}
+use Rattle.tables.specs.declared.IntervalTable.{IntervalTable}
+use Rattle.disk.specs.declared.Disk.{Disk}
+use Rattle.disk.specs.declared.DiskStepped.{DiskStepped}
+use Rattle.disk.specs.declared.DiskAnswer.the-variants as answer
+use Rattle.disk.specs.declared.SuperblockAcked.{SuperblockAcked}
+use Rattle.disk.specs.declared.SuperblockAnswer.the-variants as superblockAnswer
+use Rattle.disk.specs.declared.JournalAcked.{JournalAcked}
+use Rattle.disk.specs.declared.JournalAnswer.the-variants as journalAnswer
 use Rattle.disk.specs.Disk.{refused, answered}
 use Rattle.disk.specs.Next.{superblockRefused, superblockAnswered, journalRefused, journalAnswered}
 use Rattle.requests.specs.Acknowledge.{heldInterval, askAckReadJournal}

@@ -2,15 +2,15 @@
 use Prim.Native.Nat.{ℕ}
 use mathlib.Core.Path.{_≡_, refl, ap}
 use lib.ListN.{take}
-use Rattle.layout.specs.declared.geometry.Geometry.{Geometry}
-use Rattle.interval.specs.declared.interval.JournalInterval.{JournalInterval}
-use Rattle.superblock.specs.declared.superblock.Superblock.{Superblock}
-use Rattle.superblock.specs.declared.disk_op.MaybeId.{MaybeId}
+use Rattle.layout.specs.declared.Geometry.{Geometry}
+use Rattle.interval.specs.declared.JournalInterval.{JournalInterval}
+use Rattle.superblock.specs.declared.Superblock.{Superblock}
+use Rattle.superblock.specs.declared.MaybeId.{MaybeId}
 use Rattle.tables.specs.Rows.{placeOf}
 use Rattle.tables.specs.IdTable.{addedId, removedId}
 use Rattle.tables.specs.IntervalTable.{addedInterval, removedInterval}
-use Rattle.requests.specs.declared.slots.SuperblockWrite.the-variants as write
-use Rattle.disk.specs.declared.disk.Disk.{Disk}
+use Rattle.requests.specs.declared.SuperblockWrite.the-variants as write
+use Rattle.disk.specs.declared.Disk.{Disk}
 use Rattle.disk.specs.Disk.{withSuperblockReads, withSuperblockWrites, withJournalReads, withJournalWrites, withSlots}
 use Rattle.requests.specs.Slots.{readsAt, putReads, putWrite, slotAt, writeAt, putSlot}
 use Rattle.requests.specs.Receive.{writeReceived}

@@ -5,12 +5,12 @@ use mathlib.Core.Path.{_≡_}
 use mathlib.Core.List.{List}
 use native.Mathlib.Omega.{arith}
 use Rattle.laws.specs.Choice.{also-left, also-right, also-both, andThen-left, andThen-right, andThen-both, ask-yes, ask-holds}
-use Rattle.layout.specs.declared.geometry.Geometry.{Geometry}
+use Rattle.layout.specs.declared.Geometry.{Geometry}
 use Rattle.journal.specs.Memory.{askBlocks, askJournal}
 use Rattle.tables.specs.Rows.{Counted}
 use Rattle.tables.specs.IntervalTable.{validIntervals}
 use Rattle.tables.specs.Laws.Counts.{counted-facts, facts-counted}
-use Rattle.disk.specs.declared.disk.Disk.{Disk}
+use Rattle.disk.specs.declared.Disk.{Disk}
 use Rattle.requests.specs.Limits.{MostSuperblockReads, MostJournalReads, MostJournalWrites}
 use Rattle.disk.specs.Questions.{readsOk, intervalsOk, diskOk, askState, askDisk, askDiskOut}
 

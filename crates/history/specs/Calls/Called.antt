@@ -2,8 +2,8 @@
 use mathlib.Core.Bool.{Bool, true, false}
 use mathlib.Core.Path.{_≡_, refl, sym, subst}
 use mathlib.Core.Option.{Option, none, some}
-use Rattle.layout.specs.declared.geometry.Geometry.{Geometry}
-use Rattle.superblock.specs.declared.superblock.Superblock.{Superblock}
+use Rattle.layout.specs.declared.Geometry.{Geometry}
+use Rattle.superblock.specs.declared.Superblock.{Superblock}
 use Rattle.codec.specs.Codec.{JournalRange, Codec}
 use Rattle.source.specs.JournalDisk.{ReqId, DiskOp, RespReadSuperblockOp, RespReadJournalOp, ProcessWriteSuperblockStep}
 use Rattle.source.specs.JournalCache as M

@@ -8,15 +8,15 @@ use mathlib.Core.Option.{Option, none, some}
 use native.Mathlib.Omega.{arith}
 use lib.ListN.{length}
 use Rattle.laws.specs.Choice.{ruin, true-false}
-use Rattle.layout.specs.declared.geometry.Geometry.{Geometry}
-use Rattle.layout.specs.declared.location.Location.{Location}
+use Rattle.layout.specs.declared.Geometry.{Geometry}
+use Rattle.layout.specs.declared.Location.{Location}
 use Rattle.layout.specs.Journal.{JournalPosAdd}
 use Rattle.layout.specs.Laws.{ValidIndirectionTableLocation}
-use Rattle.interval.specs.declared.interval.JournalInterval.{JournalInterval}
+use Rattle.interval.specs.declared.JournalInterval.{JournalInterval}
 use Rattle.interval.specs.Interval.{interval}
 use Rattle.interval.specs.Journal.{JournalUpdate}
 use Rattle.interval.specs.Update.{updated, updated-is}
-use Rattle.superblock.specs.declared.superblock.Superblock.{Superblock}
+use Rattle.superblock.specs.declared.Superblock.{Superblock}
 use Rattle.laws.specs.Sets.{Ids, no-ids, leave, Map, bind, unbind, at, put, none-some, same-value}
 use Rattle.codec.specs.Codec.{JournalEntry, Codec}
 use Rattle.source.specs.JournalDisk as D

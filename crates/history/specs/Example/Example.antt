@@ -12,11 +12,11 @@ use lib.ListN.{length, getD}
 use Rattle.laws.specs.Cut.{flat}
 use Rattle.laws.specs.Sets.{Map, no-keys, bind, none-some, bind-here}
 use Rattle.laws.specs.Maps.{values-bind}
-use Rattle.interval.specs.declared.interval.JournalInterval.{JournalInterval}
+use Rattle.interval.specs.declared.JournalInterval.{JournalInterval}
 use Rattle.interval.specs.Interval.{interval, JournalFrontInterval, JournalBackInterval}
 use Rattle.interval.specs.Facts.{InCyclicRange}
 use Rattle.interval.specs.Journal.{JournalBlock}
-use Rattle.superblock.specs.declared.superblock.Superblock.{Superblock}
+use Rattle.superblock.specs.declared.Superblock.{Superblock}
 use Rattle.superblock.specs.Superblock.{IncrementSuperblockCounter}
 use Rattle.codec.specs.Format.{format}
 use Rattle.source.specs.JournalDisk.{JournalUntouched}

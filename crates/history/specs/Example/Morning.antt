@@ -6,7 +6,7 @@ use mathlib.Core.Option.{none, some}
 use mathlib.Core.Logic.{inl}
 use native.Mathlib.Omega.{arith}
 use Rattle.interval.specs.Interval.{JournalFrontInterval, JournalBackInterval}
-use Rattle.superblock.specs.declared.superblock.Superblock.{Superblock}
+use Rattle.superblock.specs.declared.Superblock.{Superblock}
 use Rattle.superblock.specs.Superblock.{IncrementSuperblockCounter, increments1, SelectSuperblockIndex, SelectSuperblock}
 use Rattle.superblock.specs.Laws.{WFSuperblock}
 use Rattle.laws.specs.Sets.{Ids, no-ids, no-keys, AtMost, none-few, Two, both, at, put, none-some, at-both}

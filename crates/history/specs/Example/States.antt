@@ -4,7 +4,7 @@ use mathlib.Core.List.{List, []}
 use mathlib.Core.Option.{Option, none, some}
 use Rattle.laws.specs.Sets.{no-ids, join, no-keys, bind, Two, both}
 use Rattle.interval.specs.Journal.{JournalBlock}
-use Rattle.superblock.specs.declared.superblock.Superblock.{Superblock}
+use Rattle.superblock.specs.declared.Superblock.{Superblock}
 use Rattle.codec.specs.Format.{encodeBlocks}
 use Rattle.source.specs.JournalDisk as D
 use Rattle.source.specs.JournalCache as M

@@ -9,10 +9,10 @@ use native.Mathlib.Omega.{arith}
 use lib.ListN.{length, drop, length-append, length-map}
 use lib.Seq.{drop-at, ext-getD}
 use Rattle.laws.specs.Ring.{wrap, off, wrap-in, wrap-mod, wrap-add, wrap-off, off-wrap}
-use Rattle.layout.specs.declared.geometry.Geometry.{Geometry}
+use Rattle.layout.specs.declared.Geometry.{Geometry}
 use Rattle.layout.specs.Journal.{JournalPosAdd}
 use Rattle.layout.specs.Laws.{pos-add-wrap}
-use Rattle.interval.specs.declared.interval.JournalInterval.{JournalInterval}
+use Rattle.interval.specs.declared.JournalInterval.{JournalInterval}
 use Rattle.interval.specs.Interval.{interval}
 use Rattle.interval.specs.Facts.{ValidJournalInterval, InCyclicRange}
 use Rattle.interval.specs.Journal.{JournalBlock, JournalUpdate, CyclicSlice}

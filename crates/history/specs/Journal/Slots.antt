@@ -7,8 +7,8 @@ use mathlib.Core.Option.{Option, some, Option·some-injective}
 use native.Mathlib.Omega.{arith}
 use lib.Dec.{eqb}
 use Rattle.laws.specs.Choice.{split-eq, by-eqb, true-false, false-true}
-use Rattle.layout.specs.declared.geometry.Geometry.{Geometry}
-use Rattle.superblock.specs.declared.superblock.Superblock.{Superblock}
+use Rattle.layout.specs.declared.Geometry.{Geometry}
+use Rattle.superblock.specs.declared.Superblock.{Superblock}
 use Rattle.superblock.specs.Superblock.{IncrementSuperblockCounter, SelectSuperblock}
 use Rattle.superblock.specs.Laws.{WFSuperblock, increment-parity, increment-twice, selects-second, selects-first, selected-second, selected-first}
 use Rattle.laws.specs.Sets.{Two, at, put, at-put}

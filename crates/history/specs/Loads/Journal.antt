@@ -6,13 +6,13 @@ use mathlib.Core.List.{List}
 use mathlib.Core.Option.{Option, none, some, Option·some-injective}
 use lib.ListN.{length}
 use Rattle.laws.specs.Choice.{also, also-left, also-right}
-use Rattle.layout.specs.declared.geometry.Geometry.{Geometry}
-use Rattle.interval.specs.declared.interval.JournalInterval.{JournalInterval}
+use Rattle.layout.specs.declared.Geometry.{Geometry}
+use Rattle.interval.specs.declared.JournalInterval.{JournalInterval}
 use Rattle.interval.specs.Interval.{interval, JournalFrontInterval, JournalBackInterval}
 use Rattle.interval.specs.Facts.{ContiguousJournalInterval}
 use Rattle.interval.specs.Journal.{JournalBlock, CyclicSlice, fullRange, readable}
 use Rattle.interval.specs.Laws.{sliceOf, front-back-slice}
-use Rattle.superblock.specs.declared.superblock.Superblock.{Superblock}
+use Rattle.superblock.specs.declared.Superblock.{Superblock}
 use Rattle.superblock.specs.Laws.{WFSuperblock}
 use Rattle.laws.specs.Sets.{no-ids, no-keys, bind, AtMost, none-few, Two, both, at, put, none-some, same-value, at-both, at-put, bind-here}
 use Rattle.laws.specs.Maps.{values-bind, keys-one, bind-unbind, one-few}

@@ -8,11 +8,11 @@ use mathlib.Core.Logic.{_⊎_, inr, ⊎-elim}
 use native.Mathlib.Omega.{arith}
 use lib.ListN.{length}
 use Rattle.laws.specs.Choice.{ruin}
-use Rattle.layout.specs.declared.geometry.Geometry.{Geometry}
-use Rattle.interval.specs.declared.interval.JournalInterval.{JournalInterval}
+use Rattle.layout.specs.declared.Geometry.{Geometry}
+use Rattle.interval.specs.declared.JournalInterval.{JournalInterval}
 use Rattle.interval.specs.Facts.{ContiguousJournalInterval}
 use Rattle.interval.specs.Journal.{JournalBlock}
-use Rattle.superblock.specs.declared.superblock.Superblock.{Superblock}
+use Rattle.superblock.specs.declared.Superblock.{Superblock}
 use Rattle.superblock.specs.Laws.{WFSuperblock, facts-superblock}
 use Rattle.laws.specs.Sets.{Ids, no-ids, join, leave, Map, no-keys, keys, AtMost, none-few, Two, both, at, put, none-some, at-both, at-put, join-here}
 use Rattle.laws.specs.Maps.{Values, join-leave, one-few, none-if}

@@ -4,9 +4,9 @@ use mathlib.Core.Bool.{Bool, true, false, not}
 use mathlib.Core.Path.{_≡_, refl, sym, _∙_, ap, subst, subst₂}
 use mathlib.Core.List.{List}
 use mathlib.Core.Option.{none, some}
-use Rattle.layout.specs.declared.geometry.Geometry.{Geometry}
-use Rattle.layout.specs.declared.location.Location.{Location}
-use Rattle.interval.specs.declared.interval.JournalInterval.{JournalInterval}
+use Rattle.layout.specs.declared.Geometry.{Geometry}
+use Rattle.layout.specs.declared.Location.{Location}
+use Rattle.interval.specs.declared.JournalInterval.{JournalInterval}
 use Rattle.laws.specs.Sets.{Ids, no-ids, leave, Map, no-keys, bind, unbind, both, at, put, none-some}
 use Rattle.laws.specs.Maps.{values-unbind, no-keys-some, none-if}
 use Rattle.codec.specs.Codec.{JournalEntry, JournalRange, Codec}

@@ -9,10 +9,10 @@ use native.Mathlib.Omega.{arith}
 use lib.ListN.{length, drop}
 use lib.Seq.{drop-at}
 use Rattle.laws.specs.Fold.{Each, each-right}
-use Rattle.layout.specs.declared.geometry.Geometry.{Geometry}
+use Rattle.layout.specs.declared.Geometry.{Geometry}
 use Rattle.layout.specs.Journal.{JournalPosAdd}
 use Rattle.interval.specs.Journal.{JournalBlock}
-use Rattle.superblock.specs.declared.superblock.Superblock.{Superblock}
+use Rattle.superblock.specs.declared.Superblock.{Superblock}
 use Rattle.superblock.specs.Superblock.{IncrementSuperblockCounter}
 use Rattle.laws.specs.Sets.{Two, at, put}
 use Rattle.laws.specs.Maps.{no-keys-some}

@@ -7,10 +7,10 @@ use mathlib.Core.List.{List}
 use mathlib.Core.Option.{Option, none, some, Option·some-injective}
 use native.Mathlib.Omega.{arith}
 use Rattle.laws.specs.Choice.{ruin}
-use Rattle.layout.specs.declared.geometry.Geometry.{Geometry}
-use Rattle.interval.specs.declared.interval.JournalInterval.{JournalInterval}
+use Rattle.layout.specs.declared.Geometry.{Geometry}
+use Rattle.interval.specs.declared.JournalInterval.{JournalInterval}
 use Rattle.interval.specs.Journal.{JournalBlock, CyclicSlice}
-use Rattle.superblock.specs.declared.superblock.Superblock.{Superblock}
+use Rattle.superblock.specs.declared.Superblock.{Superblock}
 use Rattle.superblock.specs.Superblock.{SelectSuperblock, wfSuperblock}
 use Rattle.superblock.specs.Laws.{WFSuperblock}
 use Rattle.laws.specs.Sets.{Map, bind, unbind, same-value, keys, Two, at, put, none-some, at-both}

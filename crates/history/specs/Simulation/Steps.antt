@@ -1,8 +1,8 @@
 -- An allowed step keeps the relation: each call's step by its own lemma. Question 2 is used once, for the read that a journal answer answers.
 use Prim.Native.Nat.{ℕ}
 use mathlib.Core.Path.{_∙_, ap}
-use Rattle.layout.specs.declared.geometry.Geometry.{Geometry}
-use Rattle.interval.specs.declared.interval.JournalInterval.{JournalInterval}
+use Rattle.layout.specs.declared.Geometry.{Geometry}
+use Rattle.interval.specs.declared.JournalInterval.{JournalInterval}
 use Rattle.laws.specs.Sets.{Map}
 use Rattle.codec.specs.Codec.{Codec}
 use Rattle.source.specs.JournalDisk as D

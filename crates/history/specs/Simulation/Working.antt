@@ -10,14 +10,14 @@ use native.Mathlib.Omega.{arith}
 use lib.ListN.{length}
 use Rattle.laws.specs.Choice.{ruin, split-le}
 use Rattle.laws.specs.Fold.{Each, each-append}
-use Rattle.layout.specs.declared.geometry.Geometry.{Geometry}
-use Rattle.layout.specs.declared.location.Location.{Location}
+use Rattle.layout.specs.declared.Geometry.{Geometry}
+use Rattle.layout.specs.declared.Location.{Location}
 use Rattle.layout.specs.Journal.{JournalPosAdd}
 use Rattle.layout.specs.Laws.{ValidIndirectionTableLocation}
-use Rattle.interval.specs.declared.interval.JournalInterval.{JournalInterval}
+use Rattle.interval.specs.declared.JournalInterval.{JournalInterval}
 use Rattle.interval.specs.Interval.{interval}
 use Rattle.interval.specs.Journal.{JournalBlock, JournalUpdate}
-use Rattle.superblock.specs.declared.superblock.Superblock.{Superblock}
+use Rattle.superblock.specs.declared.Superblock.{Superblock}
 use Rattle.superblock.specs.Laws.{WFSuperblock}
 use Rattle.laws.specs.Sets.{Ids, join, leave, Map, bind, keys, Two, none-some}
 use Rattle.laws.specs.Maps.{Values, values-bind, values-unbind, keys-bind, keys-unbind, no-keys-some}

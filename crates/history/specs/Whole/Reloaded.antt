@@ -8,12 +8,12 @@ use mathlib.Core.Option.{Option, some, Option·getD}
 use lib.ListN.{length}
 use Rattle.laws.specs.Choice.{false-true}
 use Rattle.laws.specs.Cut.{flat}
-use Rattle.layout.specs.declared.geometry.Geometry.{Geometry}
-use Rattle.interval.specs.declared.interval.JournalInterval.{JournalInterval}
+use Rattle.layout.specs.declared.Geometry.{Geometry}
+use Rattle.interval.specs.declared.JournalInterval.{JournalInterval}
 use Rattle.interval.specs.Interval.{interval, JournalFrontInterval, JournalBackInterval}
 use Rattle.interval.specs.Journal.{JournalBlock, CyclicSlice}
 use Rattle.interval.specs.Laws.{FrontBack, parts-none, parts-straight, parts-wrapped, parts-cases, sliceOf, front-back-slice}
-use Rattle.superblock.specs.declared.superblock.Superblock.{Superblock}
+use Rattle.superblock.specs.declared.Superblock.{Superblock}
 use Rattle.laws.specs.Sets.{no-keys, at, same-value}
 use Rattle.codec.specs.Codec.{JournalRange, Codec}
 use Rattle.source.specs.JournalDisk as D

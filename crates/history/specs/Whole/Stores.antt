@@ -3,8 +3,8 @@
 use mathlib.Core.Bool.{Bool, true, false}
 use mathlib.Core.Path.{ap, subst}
 use mathlib.Core.List.{List, [], _∷_, map}
-use Rattle.layout.specs.declared.geometry.Geometry.{Geometry}
-use Rattle.layout.specs.declared.location.Location.{Location}
+use Rattle.layout.specs.declared.Geometry.{Geometry}
+use Rattle.layout.specs.declared.Location.{Location}
 use Rattle.codec.specs.Codec.{Codec}
 use Rattle.source.specs.JournalCache as M
 use Rattle.source.specs.JournalSystem as Y

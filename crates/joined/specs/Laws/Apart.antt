@@ -9,11 +9,11 @@ use lib.ListN.{length, take, length-take}
 use Rattle.laws.specs.Choice.{also-left, also-right, also-both, true-false, ruin, split-eq, not-so, not-true}
 use Rattle.laws.specs.Maps.{Values, mapOf-none, values-of, of-values}
 use Rattle.laws.specs.Sets.{Map, mapOf, Distinct, bind-here, bind-there, same-value, none-some}
-use Rattle.layout.specs.declared.geometry.Geometry.{Geometry}
-use Rattle.interval.specs.declared.interval.JournalInterval.{JournalInterval}
+use Rattle.layout.specs.declared.Geometry.{Geometry}
+use Rattle.interval.specs.declared.JournalInterval.{JournalInterval}
 use Rattle.interval.specs.Overlap.{journalIntervalOverlap, journalCyclicIntervalOverlap}
 use Rattle.interval.specs.Meets.{plain-symmetric}
-use Rattle.tables.specs.declared.interval_table.IntervalTable.{IntervalTable}
+use Rattle.tables.specs.declared.IntervalTable.{IntervalTable}
 use Rattle.tables.specs.Rows.{Counted}
 use Rattle.tables.specs.IntervalTable.{intervalRows, intervalMap, SizedIntervals}
 use Rattle.tables.specs.Laws.RowTables.{rows-values, values-rows}

@@ -8,22 +8,22 @@ use borrow.Author.Tests.{eqb-true, eq-eqb}
 use Rattle.laws.specs.Choice.{also-left, also-right, also-both, true-false, false-true, split-eq}
 use Rattle.laws.specs.Maps.{keys-bind}
 use Rattle.laws.specs.Sets.{Ids, join, Map, no-keys, bind, isKey, keys, idsOf, Two, eachOf, bind-here, bind-there, same-value, none-some}
-use Rattle.interval.specs.declared.interval.JournalInterval.{JournalInterval}
+use Rattle.interval.specs.declared.JournalInterval.{JournalInterval}
 use Rattle.superblock.specs.Laws.{same-superblock, superblock-same}
-use Rattle.tables.specs.declared.id_table.IdTable.{IdTable}
-use Rattle.tables.specs.declared.interval_table.IntervalTable.{IntervalTable}
+use Rattle.tables.specs.declared.IdTable.{IdTable}
+use Rattle.tables.specs.declared.IntervalTable.{IntervalTable}
 use Rattle.tables.specs.IdTable.{idSet, addedId}
 use Rattle.tables.specs.IntervalTable.{intervalMap, SizedIntervals, heldOf}
 use Rattle.tables.specs.Laws.Places.{same-sets, sets-same}
 use Rattle.tables.specs.Laws.IntervalTables.{same-facts, facts-same}
-use Rattle.requests.specs.declared.slots.SuperblockReads.{SuperblockReads}
-use Rattle.requests.specs.declared.slots.SuperblockWrite.{SuperblockWrite}
-use Rattle.requests.specs.declared.slots.SuperblockWrite.the-variants as write
-use Rattle.requests.specs.declared.slots.SuperblockWrites.{SuperblockWrites}
+use Rattle.requests.specs.declared.SuperblockReads.{SuperblockReads}
+use Rattle.requests.specs.declared.SuperblockWrite.{SuperblockWrite}
+use Rattle.requests.specs.declared.SuperblockWrite.the-variants as write
+use Rattle.requests.specs.declared.SuperblockWrites.{SuperblockWrites}
 use Rattle.requests.specs.Laws.Pairs.{readPair}
-use Rattle.joined.specs.declared.awaits.AwaitedRead.{AwaitedRead}
-use Rattle.joined.specs.declared.awaits.AwaitedRead.the-variants as read
-use Rattle.joined.specs.declared.awaits.AwaitedReads.{AwaitedReads}
+use Rattle.joined.specs.declared.AwaitedRead.{AwaitedRead}
+use Rattle.joined.specs.declared.AwaitedRead.the-variants as read
+use Rattle.joined.specs.declared.AwaitedReads.{AwaitedReads}
 use Rattle.joined.specs.Held.{sameTables, sameReads, sameInterval, readIs, readHeld, readIds, sameJournalReads, sameWrite, sameWrites}
 
 -- superblock reads

@@ -9,7 +9,7 @@ use lib.Seq.{getD-take, length-take-le}
 use Rattle.laws.specs.Choice.{also, false-also, true-also}
 use Rattle.laws.specs.Fold.{every}
 use Rattle.laws.specs.Part.{drop-step}
-use Rattle.interval.specs.declared.interval.JournalInterval.{JournalInterval}
+use Rattle.interval.specs.declared.JournalInterval.{JournalInterval}
 use Rattle.tables.specs.Laws.Walks.{cut-front}
 use Rattle.joined.specs.Apart.{apartFrom, apart}
 

@@ -8,19 +8,19 @@ use native.Mathlib.Omega.{arith}
 use borrow.Author.Tests.{leb-true, le-leb, eq-eqb, eqb-true}
 use Rattle.laws.specs.Choice.{also, ruin, false-true, not-so, split-bool, also-left, also-right, also-both, ask-yes, ask-holds, andThen-left, andThen-right, andThen-both}
 use Rattle.laws.specs.Sets.{none-some}
-use Rattle.layout.specs.declared.geometry.Geometry.{Geometry}
-use Rattle.interval.specs.declared.interval.JournalInterval.{JournalInterval}
-use Rattle.interval.specs.declared.answer.MaybeInterval.{MaybeInterval}
+use Rattle.layout.specs.declared.Geometry.{Geometry}
+use Rattle.interval.specs.declared.JournalInterval.{JournalInterval}
+use Rattle.interval.specs.declared.MaybeInterval.{MaybeInterval}
 use Rattle.interval.specs.Answer.{maybeInterval}
 use Rattle.interval.specs.Interval.{interval}
 use Rattle.interval.specs.Laws.{lenOf, parts-none, parts-straight, parts-wrapped, parts-cases, parts-fit}
-use Rattle.superblock.specs.declared.superblock.Superblock.{Superblock}
-use Rattle.superblock.specs.declared.disk_op.JournalRead.{JournalRead}
+use Rattle.superblock.specs.declared.Superblock.{Superblock}
+use Rattle.superblock.specs.declared.JournalRead.{JournalRead}
 use Rattle.superblock.specs.Superblock.{JournalFrontIntervalOfSuperblock, JournalBackIntervalOfSuperblock}
 use Rattle.superblock.specs.Laws.{WFSuperblock, superblock-facts, facts-superblock}
-use Rattle.loading.specs.declared.pieces.Piece.{Piece}
-use Rattle.loading.specs.declared.pieces.Piece.the-variants as piece
-use Rattle.loading.specs.declared.other.LoadingOther.{LoadingOther}
+use Rattle.loading.specs.declared.Piece.{Piece}
+use Rattle.loading.specs.declared.Piece.the-variants as piece
+use Rattle.loading.specs.declared.LoadingOther.{LoadingOther}
 use Rattle.loading.specs.Pieces.{isThere, blocksOf, pieceInterval, pieceReads, pieceUnread, pieceLoaded, pieceReadsDiffer, pieceRead}
 use Rattle.loading.specs.Other.{frontOf, backOf, frontBlocks, backBlocks, piecesOk, loadingOtherOk, intervalAt, pieceAt, toPieces, askPageInJournalReq, intervalOf, pageInJournalReqInterval, place, placeOf, pageInJournalRespNext, askFinishLoadingOtherPhase}
 use Rattle.loading.specs.Laws.Which.{which-asked, asked-which, not-true, true-not}

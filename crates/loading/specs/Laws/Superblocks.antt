@@ -6,14 +6,14 @@ use mathlib.Core.Path.{_≡_, refl, sym, _∙_, ap}
 use native.Mathlib.Omega.{arith}
 use borrow.Author.Tests.{eq-eqb, eqb-true}
 use Rattle.laws.specs.Choice.{false-true, also-left, also-right, also-both, ask-yes, ask-holds, andThen-left, andThen-right, andThen-both}
-use Rattle.layout.specs.declared.geometry.Geometry.{Geometry}
-use Rattle.superblock.specs.declared.superblock.Superblock.{Superblock}
-use Rattle.superblock.specs.declared.disk_op.SuperblockRead.{SuperblockRead}
+use Rattle.layout.specs.declared.Geometry.{Geometry}
+use Rattle.superblock.specs.declared.Superblock.{Superblock}
+use Rattle.superblock.specs.declared.SuperblockRead.{SuperblockRead}
 use Rattle.superblock.specs.Laws.{WFSuperblock, superblock-facts, facts-superblock}
-use Rattle.loading.specs.declared.slots.SlotRead.{SlotRead}
-use Rattle.loading.specs.declared.slots.SlotRead.the-variants as slot
-use Rattle.loading.specs.declared.superblocks.LoadingSuperblock.{LoadingSuperblock}
-use Rattle.loading.specs.declared.other.LoadingOther.{LoadingOther}
+use Rattle.loading.specs.declared.SlotRead.{SlotRead}
+use Rattle.loading.specs.declared.SlotRead.the-variants as slot
+use Rattle.loading.specs.declared.LoadingSuperblock.{LoadingSuperblock}
+use Rattle.loading.specs.declared.LoadingOther.{LoadingOther}
 use Rattle.loading.specs.Slots.{successWf, slotAwaits, slotUnasked, slotCorrupt, slotSucceeded, slotHolds, slotReadsDiffer, slotRead}
 use Rattle.loading.specs.Other.{selectedOther}
 use Rattle.loading.specs.Superblocks.{loadingSuperblockOk, slotAt, otherSlot, toSlot, askPageInSuperblockReq, superblockAwaited, pageInSuperblockRespNext, ifHolds, askFinishLoadingSuperblockPhase, finishLoadingSuperblockPhaseNext, askAskAgain}

@@ -6,10 +6,10 @@ use mathlib.Core.List.{List}
 use mathlib.Core.Logic.{⊎-elim}
 use lib.Dec.{eqb}
 use Rattle.laws.specs.Choice.{andThen, andThen-first, andThen-done, unless, unless-kept, unless-done, refused-said, asked-yes, asked-no, asked-either, ruin}
-use Rattle.superblock.specs.declared.disk_op.DiskOp.{DiskOp}
-use Rattle.machine.specs.declared.machine.Machine.{Machine}
-use Rattle.machine.specs.declared.machine.MachineAnswer.the-variants as answer
-use Rattle.machine.specs.declared.machine.MachineStepped.{MachineStepped}
+use Rattle.superblock.specs.declared.DiskOp.{DiskOp}
+use Rattle.machine.specs.declared.Machine.{Machine}
+use Rattle.machine.specs.declared.MachineAnswer.the-variants as answer
+use Rattle.machine.specs.declared.MachineStepped.{MachineStepped}
 use Rattle.machine.specs.Machine.{refused, accepted, answered}
 
 -- one question: a no, and a yes

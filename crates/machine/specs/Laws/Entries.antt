@@ -10,22 +10,22 @@ use borrow.Author.Tests.{leb-true}
 use Rattle.laws.specs.Choice.{andThen, andThen-left, andThen-right, andThen-first, andThen-done, unless, also-left, also-right, ask, ask-fails, ask-holds, split-le}
 use Rattle.laws.specs.Fold.{same-is}
 use Rattle.laws.specs.Splice.{clipped}
-use Rattle.superblock.specs.declared.disk_op.DiskOp.{DiskOp}
-use Rattle.superblock.specs.declared.disk_op.DiskOp.the-variants as op
-use Rattle.memory.specs.declared.count.Count.{Count}
-use Rattle.memory.specs.declared.limits.Limits.{Limits}
-use Rattle.memory.specs.declared.count.Counted.{Counted}
-use Rattle.memory.specs.declared.count.Counted.the-variants as answer
+use Rattle.superblock.specs.declared.DiskOp.{DiskOp}
+use Rattle.superblock.specs.declared.DiskOp.the-variants as op
+use Rattle.memory.specs.declared.Count.{Count}
+use Rattle.memory.specs.declared.Limits.{Limits}
+use Rattle.memory.specs.declared.Counted.{Counted}
+use Rattle.memory.specs.declared.Counted.the-variants as answer
 use Rattle.memory.specs.Answer.{counted, refusal, counted-now, counted-refused, counted-done, counted-no, refusal-counted}
 use Rattle.memory.specs.Given.{memory, countOf, askGiven, given-asked}
 use Rattle.memory.specs.Replay.{isNext}
-use Rattle.ready.specs.declared.entries.Bodies.{Bodies}
-use Rattle.ready.specs.declared.entries.Entries.{Entries}
-use Rattle.ready.specs.declared.ready.Ready.{Ready}
+use Rattle.ready.specs.declared.Bodies.{Bodies}
+use Rattle.ready.specs.declared.Entries.{Entries}
+use Rattle.ready.specs.declared.Ready.{Ready}
 use Rattle.ready.specs.EntrySteps.{advanced, askAdvance, advance, replayNext}
 use Rattle.ready.specs.State.{replayLeft}
-use Rattle.machine.specs.declared.machine.Machine.{Machine}
-use Rattle.machine.specs.declared.machine.MachineStepped.{MachineStepped}
+use Rattle.machine.specs.declared.Machine.{Machine}
+use Rattle.machine.specs.declared.MachineStepped.{MachineStepped}
 use Rattle.machine.specs.Machine.{limitsOf, accepted, answered, withReady}
 use Rattle.machine.specs.Working.{countIn, givenOf, askAdvanceStep, askReplayGiven, replayGiven, askReplayStep, replayCount, replayMachine, takenThen}
 use Rattle.machine.specs.Laws.Parts.{answered-is}

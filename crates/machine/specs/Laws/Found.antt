@@ -6,14 +6,14 @@ use mathlib.Core.Logic.{⊎-elim}
 use borrow.Author.Tests.{eqb-true}
 use lib.Dec.{eqb}
 use Rattle.laws.specs.Choice.{andThen, andThen-first, andThen-done, asked-yes, asked-no, asked-either, ruin}
-use Rattle.memory.specs.declared.count.Count.{Count}
-use Rattle.memory.specs.declared.count.Counted.{Counted}
-use Rattle.memory.specs.declared.count.PendingCount.{PendingCount}
-use Rattle.memory.specs.declared.count.PendingCount.the-variants as pending
+use Rattle.memory.specs.declared.Count.{Count}
+use Rattle.memory.specs.declared.Counted.{Counted}
+use Rattle.memory.specs.declared.PendingCount.{PendingCount}
+use Rattle.memory.specs.declared.PendingCount.the-variants as pending
 use Rattle.memory.specs.Answer.{counted, refusal, pendingCounted, pendingRefusal, pending-now, pending-stopped, refusal-counted}
-use Rattle.ready.specs.declared.entries.Bodies.{Bodies}
-use Rattle.machine.specs.declared.questions.Asked.{Asked}
-use Rattle.machine.specs.declared.questions.Asked.the-variants as asked
+use Rattle.ready.specs.declared.Bodies.{Bodies}
+use Rattle.machine.specs.declared.Asked.{Asked}
+use Rattle.machine.specs.declared.Asked.the-variants as asked
 use Rattle.machine.specs.Questions.{bodies, found, refusalOf, bodiesIn}
 
 pub found-no : (q k : ℕ) (b : Bodies) → (q ≡ 0 → ⊥) × (k ≡ q) → asked.Refused k ≡ found q b

@@ -1,18 +1,18 @@
 -- Init's machine from its parts, and question 1 with the machine's own limits. The code's proofs cite them.
 use Prim.Native.Nat.{ℕ}
 use mathlib.Core.Path.{_≡_, _∙_, ap}
-use Rattle.layout.specs.declared.geometry.Geometry.{Geometry}
-use Rattle.superblock.specs.declared.superblock.Superblock.{Superblock}
-use Rattle.tables.specs.declared.sync_table.SyncTable.{SyncTable}
+use Rattle.layout.specs.declared.Geometry.{Geometry}
+use Rattle.superblock.specs.declared.Superblock.{Superblock}
+use Rattle.tables.specs.declared.SyncTable.{SyncTable}
 use Rattle.tables.specs.SyncTable.{noSyncs}
-use Rattle.memory.specs.declared.limits.Limits.{Limits}
-use Rattle.loading.specs.declared.superblocks.LoadingSuperblock.{LoadingSuperblock}
-use Rattle.loading.specs.declared.other.LoadingOther.{LoadingOther}
+use Rattle.memory.specs.declared.Limits.{Limits}
+use Rattle.loading.specs.declared.LoadingSuperblock.{LoadingSuperblock}
+use Rattle.loading.specs.declared.LoadingOther.{LoadingOther}
 use Rattle.loading.specs.Superblocks.{initial}
-use Rattle.ready.specs.declared.ready.Ready.{Ready}
+use Rattle.ready.specs.declared.Ready.{Ready}
 use Rattle.ready.specs.State.{loaded}
-use Rattle.machine.specs.declared.machine.Kind.the-variants as kind
-use Rattle.machine.specs.declared.machine.Machine.{Machine}
+use Rattle.machine.specs.declared.Kind.the-variants as kind
+use Rattle.machine.specs.declared.Machine.{Machine}
 use Rattle.machine.specs.Machine.{limitsOf, noSuperblock, nothingLoaded, initialMachine}
 use Rattle.machine.specs.Lent.{Lent, askLent}
 

@@ -2,8 +2,8 @@
 use Prim.Native.Nat.{ℕ}
 use mathlib.Core.Path.{_≡_, refl}
 use native.Mathlib.Omega.{arith}
-use Rattle.machine.specs.declared.machine.Kind.{Kind}
-use Rattle.machine.specs.declared.machine.Kind.the-variants as kind
+use Rattle.machine.specs.declared.Kind.{Kind}
+use Rattle.machine.specs.declared.Kind.the-variants as kind
 use Rattle.machine.specs.Machine.{byKind}
 
 module _ {ℓ} {A : Type ℓ} where

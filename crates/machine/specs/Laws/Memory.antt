@@ -12,30 +12,30 @@ use Rattle.laws.specs.Part.{part-cut}
 use Rattle.laws.specs.Splice.{splice, clipped}
 use Rattle.laws.specs.Fold.{sum}
 use Rattle.laws.specs.Cut.{flat, lengths}
-use Rattle.layout.specs.declared.geometry.Geometry.{Geometry}
-use Rattle.superblock.specs.declared.disk_op.MaybeId.{MaybeId}
-use Rattle.superblock.specs.declared.disk_op.DiskOp.{DiskOp}
-use Rattle.superblock.specs.declared.disk_op.DiskOp.the-variants as op
+use Rattle.layout.specs.declared.Geometry.{Geometry}
+use Rattle.superblock.specs.declared.MaybeId.{MaybeId}
+use Rattle.superblock.specs.declared.DiskOp.{DiskOp}
+use Rattle.superblock.specs.declared.DiskOp.the-variants as op
 use Rattle.range.specs.Form.{allEntries}
 use Rattle.reader.specs.declared.answer.Scanned.{Scanned}
 use Rattle.reader.specs.declared.answer.Scanned.the-variants as scan
 use Rattle.reader.specs.Answer.{scanned}
 use Rattle.unpacker.specs.Unpack.{askUnpack}
 use Rattle.writer.specs.Ring.{putRange}
-use Rattle.memory.specs.declared.count.Count.{Count}
-use Rattle.memory.specs.declared.count.Counted.{Counted}
+use Rattle.memory.specs.declared.Count.{Count}
+use Rattle.memory.specs.declared.Counted.{Counted}
 use Rattle.memory.specs.Answer.{refusal, refusal-counted}
 use Rattle.memory.specs.Given.{memory, countOf}
 use Rattle.journal.specs.Memory.{copyBlocks}
-use Rattle.loading.specs.declared.other.Paged.{Paged}
+use Rattle.loading.specs.declared.Paged.{Paged}
 use Rattle.loading.specs.Other.{loadedBlocks}
-use Rattle.ready.specs.declared.entries.Bodies.{Bodies}
-use Rattle.ready.specs.declared.ready.Ready.{Ready}
+use Rattle.ready.specs.declared.Bodies.{Bodies}
+use Rattle.ready.specs.declared.Ready.{Ready}
 use Rattle.ready.specs.State.{count}
 use Rattle.ready.specs.EntrySteps.{advanced, advanceNext}
-use Rattle.machine.specs.declared.machine.Machine.{Machine}
-use Rattle.machine.specs.declared.machine.MachineStepped.{MachineStepped}
-use Rattle.machine.specs.declared.questions.Asked.{Asked}
+use Rattle.machine.specs.declared.Machine.{Machine}
+use Rattle.machine.specs.declared.MachineStepped.{MachineStepped}
+use Rattle.machine.specs.declared.Asked.{Asked}
 use Rattle.machine.specs.Machine.{refused, accepted, answered, withReady}
 use Rattle.machine.specs.Questions.{found, refusalOf, bodiesIn}
 use Rattle.machine.specs.Loading.{firstBlocks, scanRefusal, scanEntries, pagedPieces, askFinishLoadingOtherPhaseStep, loadedBytes, askLoaded, loadedMachine, finishLoadingOtherPhaseMachine, loadedReplayBytes, loadedReplayLens}

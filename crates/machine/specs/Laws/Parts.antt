@@ -5,23 +5,23 @@ use mathlib.Core.Path.{_≡_, refl, sym, _∙_, ap}
 use lib.Dec.{eqb}
 use borrow.Author.Tests.{eqb-true}
 use Rattle.laws.specs.Choice.{andThen, andThen-first, andThen-done, refused-said, asked-yes, asked-no, split-eq}
-use Rattle.layout.specs.declared.geometry.Geometry.{Geometry}
-use Rattle.superblock.specs.declared.superblock.Superblock.{Superblock}
-use Rattle.superblock.specs.declared.disk_op.MaybeId.{MaybeId}
-use Rattle.superblock.specs.declared.disk_op.DiskOp.{DiskOp}
-use Rattle.superblock.specs.declared.disk_op.DiskOp.the-variants as op
-use Rattle.ready.specs.declared.entries.Bodies.{Bodies}
-use Rattle.ready.specs.declared.ready.Ready.{Ready}
-use Rattle.ready.specs.declared.journal_steps.JournalWrite.{JournalWrite}
-use Rattle.ready.specs.declared.journal_steps.JournalWrite.the-variants as write
-use Rattle.ready.specs.declared.commit_steps.NewSuperblock.{NewSuperblock}
-use Rattle.ready.specs.declared.commit_steps.NewSuperblock.the-variants as new
+use Rattle.layout.specs.declared.Geometry.{Geometry}
+use Rattle.superblock.specs.declared.Superblock.{Superblock}
+use Rattle.superblock.specs.declared.MaybeId.{MaybeId}
+use Rattle.superblock.specs.declared.DiskOp.{DiskOp}
+use Rattle.superblock.specs.declared.DiskOp.the-variants as op
+use Rattle.ready.specs.declared.Bodies.{Bodies}
+use Rattle.ready.specs.declared.Ready.{Ready}
+use Rattle.ready.specs.declared.JournalWrite.{JournalWrite}
+use Rattle.ready.specs.declared.JournalWrite.the-variants as write
+use Rattle.ready.specs.declared.NewSuperblock.{NewSuperblock}
+use Rattle.ready.specs.declared.NewSuperblock.the-variants as new
 use Rattle.ready.specs.JournalSteps.{journalWrite, sentBlocks, askWriteBackJournalReq, writeBackJournalReq}
 use Rattle.ready.specs.CommitSteps.{newSuperblock, askAdvanceLog, advancedLog, advanceLog, askAdvanceLocation, advancedLocation, advanceLocation}
 use Rattle.ready.specs.Laws.Sends.{location-refused, location-sent}
-use Rattle.machine.specs.declared.machine.Machine.{Machine}
+use Rattle.machine.specs.declared.Machine.{Machine}
 use Rattle.machine.specs.declared.journal_steps.SentRange.{SentRange}
-use Rattle.machine.specs.declared.machine.MachineStepped.{MachineStepped}
+use Rattle.machine.specs.declared.MachineStepped.{MachineStepped}
 use Rattle.machine.specs.Machine.{askReady, refused, accepted, answered}
 use Rattle.machine.specs.Working.{sentStart, askWriteBackJournalReqStep, writtenMachine, writeBackJournalReqOp, writeBackJournalReqMachine, journalNew, writeRefusal, rangeIn, rangeOp, commitOp, commitRequested, newAfter, logNew, locationNew, newRefusal, newIn, askAdvanceLogStep, askAdvanceLocationStep, newLocation, receivedOr}
 use Rattle.machine.specs.Laws.Answers.{answered-no}

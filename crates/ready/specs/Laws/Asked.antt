@@ -5,14 +5,14 @@ use mathlib.Core.Path.{_≡_, refl, ap}
 use native.Mathlib.Omega.{arith}
 use borrow.Author.Tests.{leb-true, le-leb, ltb-true, lt-ltb, eqb-true, eq-eqb}
 use Rattle.laws.specs.Choice.{also-left, also-right, also-both, andThen-left, andThen-right, andThen-both, ask-yes, ask-holds, false-true}
-use Rattle.layout.specs.declared.geometry.Geometry.{Geometry}
-use Rattle.layout.specs.declared.location.Location.{Location}
+use Rattle.layout.specs.declared.Geometry.{Geometry}
+use Rattle.layout.specs.declared.Location.{Location}
 use Rattle.layout.specs.Laws.{ValidIndirectionTableLocation, table-location-facts, facts-table-location}
-use Rattle.superblock.specs.declared.disk_op.MaybeId.{MaybeId}
-use Rattle.memory.specs.declared.count.Count.{Count}
-use Rattle.memory.specs.declared.limits.Limits.{Limits}
-use Rattle.ready.specs.declared.entries.Bodies.{Bodies}
-use Rattle.ready.specs.declared.ready.Ready.{Ready}
+use Rattle.superblock.specs.declared.MaybeId.{MaybeId}
+use Rattle.memory.specs.declared.Count.{Count}
+use Rattle.memory.specs.declared.Limits.{Limits}
+use Rattle.ready.specs.declared.Bodies.{Bodies}
+use Rattle.ready.specs.declared.Ready.{Ready}
 use Rattle.ready.specs.State.{isReceived, isLocation, noCommit, sent}
 use Rattle.ready.specs.JournalSteps.{sentBlocks, mayWrite, askIds, askRoom, askWriteBackJournalReq}
 use Rattle.ready.specs.CommitSteps.{mayCommit, askAdvanceLog, askAdvanceLocation}

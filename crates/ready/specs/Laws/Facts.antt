@@ -6,22 +6,22 @@ use mathlib.Core.Logic.{_⊎_, inl, inr, ⊎-elim}
 use lib.Dec.{eqb}
 use borrow.Author.Tests.{leb-true, le-leb, eqb-true, eq-eqb, eqb-false}
 use Rattle.laws.specs.Choice.{either, also-left, also-right, also-both, either-left, either-right, either-cases, false-true, ruin, split-bool}
-use Rattle.layout.specs.declared.geometry.Geometry.{Geometry}
-use Rattle.layout.specs.declared.location.Location.{Location}
+use Rattle.layout.specs.declared.Geometry.{Geometry}
+use Rattle.layout.specs.declared.Location.{Location}
 use Rattle.layout.specs.Journal.{JournalPosAdd}
 use Rattle.layout.specs.Laws.{ValidIndirectionTableLocation, table-location-facts, facts-table-location, same-location, location-same}
-use Rattle.superblock.specs.declared.superblock.Superblock.{Superblock}
+use Rattle.superblock.specs.declared.Superblock.{Superblock}
 use Rattle.superblock.specs.Superblock.{IncrementSuperblockCounter}
 use Rattle.superblock.specs.Laws.{WFSuperblock, superblock-facts, facts-superblock}
 use Rattle.tables.specs.Rows.{Counted}
 use Rattle.tables.specs.Laws.Counts.{counted-facts, facts-counted}
-use Rattle.ready.specs.declared.frozen.MaybeLocation.{MaybeLocation}
-use Rattle.ready.specs.declared.frozen.MaybeLocation.the-variants.{NoLocation, Received}
-use Rattle.ready.specs.declared.frozen.Frozen.{Frozen}
-use Rattle.ready.specs.declared.commit.Commit.{Commit}
-use Rattle.ready.specs.declared.commit.Commit.the-variants.{CommitNone, CommitAdvanceLog, CommitAdvanceLocation}
-use Rattle.ready.specs.declared.entries.Entries.{Entries}
-use Rattle.ready.specs.declared.ready.Ready.{Ready}
+use Rattle.ready.specs.declared.MaybeLocation.{MaybeLocation}
+use Rattle.ready.specs.declared.MaybeLocation.the-variants.{NoLocation, Received}
+use Rattle.ready.specs.declared.Frozen.{Frozen}
+use Rattle.ready.specs.declared.Commit.{Commit}
+use Rattle.ready.specs.declared.Commit.the-variants.{CommitNone, CommitAdvanceLog, CommitAdvanceLocation}
+use Rattle.ready.specs.declared.Entries.{Entries}
+use Rattle.ready.specs.declared.Ready.{Ready}
 use Rattle.ready.specs.State.{isReceived, isLocation}
 use Rattle.ready.specs.Inv.{MostWrites, extentOk, frozenOk, locationOk, receivedOk, advanceLogOk, advanceLocationOk, newLocationOk, newOk, inFlightOk, commitOk, someFrozenOk, invOk, entriesOk, readyOk}
 

@@ -2,11 +2,11 @@
 use Prim.Native.Nat.{ℕ}
 use mathlib.Core.Bool.{Bool}
 use mathlib.Core.Path.{_≡_, _∙_, ap}
-use Rattle.superblock.specs.declared.disk_op.MaybeId.{MaybeId}
-use Rattle.tables.specs.declared.id_table.IdTable.{IdTable}
-use Rattle.ready.specs.declared.frozen.Frozen.{Frozen}
-use Rattle.ready.specs.declared.entries.Entries.{Entries}
-use Rattle.ready.specs.declared.ready.Ready.{Ready}
+use Rattle.superblock.specs.declared.MaybeId.{MaybeId}
+use Rattle.tables.specs.declared.IdTable.{IdTable}
+use Rattle.ready.specs.declared.Frozen.{Frozen}
+use Rattle.ready.specs.declared.Entries.{Entries}
+use Rattle.ready.specs.declared.Ready.{Ready}
 use Rattle.ready.specs.State.{noneFrozen}
 use Rattle.ready.specs.JournalSteps.{joinedIds, writtenEntries, writtenFrozen, writeBackJournalReqNext}
 

@@ -7,7 +7,7 @@ use lib.Dec.{eqb}
 use borrow.Author.Tests.{ne-eqb}
 use Rattle.laws.specs.Choice.{eqb-same}
 use Rattle.laws.specs.Ring.{wrap-past, wrap-below}
-use Rattle.layout.specs.declared.geometry.Geometry.{Geometry}
+use Rattle.layout.specs.declared.Geometry.{Geometry}
 use Rattle.layout.specs.Journal.{JournalPosAdd}
 use Rattle.layout.specs.Laws.{pos-add-wrap}
 

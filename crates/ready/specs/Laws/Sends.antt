@@ -5,14 +5,14 @@ use mathlib.Core.Path.{_≡_, refl, sym, _∙_, ap}
 use mathlib.Core.Logic.{⊎-elim}
 use lib.Dec.{eqb}
 use Rattle.laws.specs.Choice.{asked-either, ask-fails, also-left, not-so, false-true, ruin}
-use Rattle.layout.specs.declared.geometry.Geometry.{Geometry}
-use Rattle.layout.specs.declared.location.Location.{Location}
-use Rattle.superblock.specs.declared.superblock.Superblock.{Superblock}
-use Rattle.ready.specs.declared.frozen.MaybeLocation.{MaybeLocation}
-use Rattle.ready.specs.declared.frozen.MaybeLocation.the-variants.{NoLocation, Received}
-use Rattle.ready.specs.declared.ready.Ready.{Ready}
-use Rattle.ready.specs.declared.commit_steps.NewSuperblock.{NewSuperblock}
-use Rattle.ready.specs.declared.commit_steps.NewSuperblock.the-variants as new
+use Rattle.layout.specs.declared.Geometry.{Geometry}
+use Rattle.layout.specs.declared.Location.{Location}
+use Rattle.superblock.specs.declared.Superblock.{Superblock}
+use Rattle.ready.specs.declared.MaybeLocation.{MaybeLocation}
+use Rattle.ready.specs.declared.MaybeLocation.the-variants.{NoLocation, Received}
+use Rattle.ready.specs.declared.Ready.{Ready}
+use Rattle.ready.specs.declared.NewSuperblock.{NewSuperblock}
+use Rattle.ready.specs.declared.NewSuperblock.the-variants as new
 use Rattle.ready.specs.State.{isReceived}
 use Rattle.ready.specs.CommitSteps.{newSuperblock, askAdvanceLocation, advancedLocation, toLocation, advanceLocation}
 

@@ -9,11 +9,11 @@ use native.Mathlib.Omega.{arith}
 use lib.ListN.{length, take}
 use Rattle.laws.specs.Choice.{not-so}
 use Rattle.laws.specs.Sets.{idsOf}
-use Rattle.layout.specs.declared.geometry.Geometry.{Geometry}
-use Rattle.interval.specs.declared.interval.JournalInterval.{JournalInterval}
+use Rattle.layout.specs.declared.Geometry.{Geometry}
+use Rattle.interval.specs.declared.JournalInterval.{JournalInterval}
 use Rattle.interval.specs.Interval.{contiguousJournalInterval}
 use Rattle.interval.specs.Facts.{ValidJournalInterval, ContiguousJournalInterval, facts-interval, contiguous-facts, facts-contiguous}
-use Rattle.superblock.specs.declared.disk_op.MaybeId.the-variants as maybe
+use Rattle.superblock.specs.declared.MaybeId.the-variants as maybe
 use Rattle.tables.specs.Rows.{hasRoom}
 use Rattle.tables.specs.IdTable.{idSet}
 use Rattle.tables.specs.IntervalTable.{intervalRows, intervalMap}
@@ -22,8 +22,8 @@ use Rattle.tables.specs.Laws.RowTables.{rows-new}
 use Rattle.tables.specs.Laws.IntervalTables.{level-intervals}
 use Rattle.source.specs.Limits.{limits}
 use Rattle.source.specs.Meets.{DiskMeets}
-use Rattle.disk.specs.declared.disk.Disk.{Disk}
-use Rattle.disk.specs.declared.disk.DiskAnswer.the-variants as answer
+use Rattle.disk.specs.declared.Disk.{Disk}
+use Rattle.disk.specs.declared.DiskAnswer.the-variants as answer
 use Rattle.requests.specs.Slots.{readsAt}
 use Rattle.requests.specs.Receive.{askRecvReadSuperblock, askRecvReadJournal, rowsFor, secondFits}
 use Rattle.disk.specs.Next.{recvReadSuperblockNext, recvReadJournalNext, recvWriteJournalNext}

@@ -4,17 +4,17 @@ use Prim.Native.Nat.{ℕ}
 use mathlib.Core.Path.{_≡_, sym, _∙_, ap, subst}
 use mathlib.Core.List.{List}
 use Rattle.laws.specs.Choice.{andThen, andThen-left, andThen-right, andThen-both, andThen-done}
-use Rattle.layout.specs.declared.geometry.Geometry.{Geometry}
-use Rattle.superblock.specs.declared.disk_op.SuperblockRead.{SuperblockRead}
+use Rattle.layout.specs.declared.Geometry.{Geometry}
+use Rattle.superblock.specs.declared.SuperblockRead.{SuperblockRead}
 use Rattle.source.specs.JournalDisk as D
 use Rattle.source.specs.Limits.{limits}
 use Rattle.source.specs.Meets.{DiskMeets}
 use Rattle.source.specs.Within.{DiskEvent, DiskStep⁺, DiskAllowed}
-use Rattle.disk.specs.declared.disk.Disk.{Disk}
-use Rattle.disk.specs.declared.disk.DiskStepped.{DiskStepped}
-use Rattle.disk.specs.declared.disk.DiskAnswer.the-variants as answer
-use Rattle.disk.specs.declared.disk.SuperblockAcked.{SuperblockAcked}
-use Rattle.disk.specs.declared.disk.SuperblockAnswer.the-variants as superblockAnswer
+use Rattle.disk.specs.declared.Disk.{Disk}
+use Rattle.disk.specs.declared.DiskStepped.{DiskStepped}
+use Rattle.disk.specs.declared.DiskAnswer.the-variants as answer
+use Rattle.disk.specs.declared.SuperblockAcked.{SuperblockAcked}
+use Rattle.disk.specs.declared.SuperblockAnswer.the-variants as superblockAnswer
 use Rattle.disk.specs.Disk.{answered}
 use Rattle.disk.specs.Questions.{askDisk}
 use Rattle.disk.specs.Next.{superblockAnswered}

@@ -11,14 +11,14 @@ use lib.ListN.{length, getD}
 use Rattle.laws.specs.Choice.{not-so, split-bool, true-false, unless-done, unless-kept}
 use Rattle.laws.specs.Maps.{Values}
 use Rattle.laws.specs.Sets.{both}
-use Rattle.layout.specs.declared.geometry.Geometry.{Geometry}
-use Rattle.interval.specs.declared.interval.JournalInterval.{JournalInterval}
+use Rattle.layout.specs.declared.Geometry.{Geometry}
+use Rattle.interval.specs.declared.JournalInterval.{JournalInterval}
 use Rattle.interval.specs.Interval.{interval}
 use Rattle.interval.specs.Facts.{ContiguousJournalInterval}
 use Rattle.interval.specs.Journal.{JournalBlock}
 use Rattle.journal.specs.Asked.{journal-blocks, journal-marks, asked-journal}
 use Rattle.journal.specs.Cells.{cells, length-cells, cell-at}
-use Rattle.tables.specs.declared.interval_table.IntervalTable.{IntervalTable}
+use Rattle.tables.specs.declared.IntervalTable.{IntervalTable}
 use Rattle.tables.specs.IntervalTable.{intervalRows, intervalMap, SizedIntervals}
 use Rattle.tables.specs.Laws.IdTables.{ids-empty}
 use Rattle.tables.specs.Laws.IntervalTables.{intervals-empty, level-intervals}
@@ -29,9 +29,9 @@ use Rattle.source.specs.Departures.{DiskCrash⁺}
 use Rattle.source.specs.Limits.{limits}
 use Rattle.source.specs.Within.{Crashed, DiskAllowed, Picture}
 use Rattle.source.specs.Laws.Unique.{diskCrash-one}
-use Rattle.disk.specs.declared.disk.Disk.{Disk}
-use Rattle.disk.specs.declared.disk.DiskStepped.{DiskStepped}
-use Rattle.disk.specs.declared.disk.DiskAnswer.the-variants as answer
+use Rattle.disk.specs.declared.Disk.{Disk}
+use Rattle.disk.specs.declared.DiskStepped.{DiskStepped}
+use Rattle.disk.specs.declared.DiskAnswer.the-variants as answer
 use Rattle.disk.specs.Laws.Answers.{done-asked, asked-done, refused-asked, refused-same}
 use Rattle.crash.specs.Picture.{inRow, covered, crashedBlocks, crashedMarks}
 use Rattle.crash.specs.Whole.{crashedDisk, askCrash, crash, crashBlocks, crashMarks}

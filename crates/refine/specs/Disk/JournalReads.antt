@@ -8,8 +8,8 @@ use native.Mathlib.Omega.{arith}
 use lib.ListN.{length, take}
 use Rattle.laws.specs.Choice.{andThen, andThen-left, andThen-right, andThen-both, unless-done, unless-kept, false-true}
 use Rattle.laws.specs.Sets.{Ids, idsOf, bind, unbind, isKey, keys, AtMost, none-some}
-use Rattle.layout.specs.declared.geometry.Geometry.{Geometry}
-use Rattle.interval.specs.declared.interval.JournalInterval.{JournalInterval}
+use Rattle.layout.specs.declared.Geometry.{Geometry}
+use Rattle.interval.specs.declared.JournalInterval.{JournalInterval}
 use Rattle.interval.specs.Facts.{ContiguousJournalInterval, contiguous-facts, facts-contiguous}
 use Rattle.journal.specs.Memory.{sliceBytes, fullMarks}
 use Rattle.journal.specs.Asked.{blocks-asked, asked-blocks}
@@ -18,7 +18,7 @@ use Rattle.journal.specs.Cells.{blocksIn, cells, length-cells, length-bytes, fu
 use Rattle.journal.specs.Blocks.{blocks-front}
 use Rattle.codec.specs.Codec.{JournalRange, Disk-HasJournalRange, Disk-JournalRange, concatFold}
 use Rattle.codec.specs.Ranges.{whole-read}
-use Rattle.tables.specs.declared.interval_table.IntervalTable.{IntervalTable}
+use Rattle.tables.specs.declared.IntervalTable.{IntervalTable}
 use Rattle.tables.specs.IntervalTable.{intervalRows, intervalMap, SizedIntervals}
 use Rattle.tables.specs.Laws.Counts.{add-asked}
 use Rattle.tables.specs.Laws.RowTables.{rows-addable, few-rows-add, rows-keys, rows-known}
@@ -28,10 +28,10 @@ use Rattle.source.specs.JournalDisk.{ReqReadJournalOp, RespReadJournalOp}
 use Rattle.source.specs.Limits.{limits}
 use Rattle.source.specs.Meets.{DiskMeets}
 use Rattle.source.specs.Within.{Operation, DiskAllowed, DiskWithin}
-use Rattle.disk.specs.declared.disk.Disk.{Disk}
-use Rattle.disk.specs.declared.disk.DiskAnswer.the-variants as answer
-use Rattle.disk.specs.declared.disk.JournalAcked.{JournalAcked}
-use Rattle.disk.specs.declared.disk.JournalAnswer.the-variants as journalAnswer
+use Rattle.disk.specs.declared.Disk.{Disk}
+use Rattle.disk.specs.declared.DiskAnswer.the-variants as answer
+use Rattle.disk.specs.declared.JournalAcked.{JournalAcked}
+use Rattle.disk.specs.declared.JournalAnswer.the-variants as journalAnswer
 use Rattle.disk.specs.Questions.{askDisk, askDiskOut}
 use Rattle.requests.specs.Receive.{askRecvReadJournal}
 use Rattle.disk.specs.Next.{recvReadJournalNext}

@@ -9,19 +9,19 @@ use lib.ListN.{length, take}
 use Rattle.laws.specs.Choice.{andThen, andThen-right, unless-done, unless-kept, not-so, split-le, ruin}
 use Rattle.laws.specs.Sets.{idsOf, bind, unbind, keys, AtMost, none-some}
 use Rattle.laws.specs.Maps.{mapOf-none}
-use Rattle.layout.specs.declared.geometry.Geometry.{Geometry}
-use Rattle.interval.specs.declared.interval.JournalInterval.{JournalInterval}
+use Rattle.layout.specs.declared.Geometry.{Geometry}
+use Rattle.interval.specs.declared.JournalInterval.{JournalInterval}
 use Rattle.interval.specs.Interval.{interval, contiguousJournalInterval}
 use Rattle.interval.specs.Facts.{ValidJournalInterval, interval-facts, facts-interval, contiguous-facts, facts-contiguous}
 use Rattle.interval.specs.Journal.{JournalUpdate}
-use Rattle.superblock.specs.declared.disk_op.MaybeId.{MaybeId}
-use Rattle.superblock.specs.declared.disk_op.MaybeId.the-variants as maybe
+use Rattle.superblock.specs.declared.MaybeId.{MaybeId}
+use Rattle.superblock.specs.declared.MaybeId.the-variants as maybe
 use Rattle.journal.specs.Memory.{updateBytes, updateMarks}
 use Rattle.journal.specs.Asked.{Update}
 use Rattle.journal.specs.Cells.{blocksIn, cells}
 use Rattle.journal.specs.Blocks.{length-blocks}
 use Rattle.journal.specs.Update.{update-cells}
-use Rattle.tables.specs.declared.interval_table.IntervalTable.{IntervalTable}
+use Rattle.tables.specs.declared.IntervalTable.{IntervalTable}
 use Rattle.tables.specs.Rows.{Counted, hasRoom}
 use Rattle.tables.specs.IntervalTable.{intervalRows, intervalMap, SizedIntervals}
 use Rattle.tables.specs.Laws.Counts.{add-asked, has-room, room-array}
@@ -32,9 +32,9 @@ use Rattle.source.specs.JournalDisk.{ReqWriteJournal, ReqWriteJournalOp, RespWr
 use Rattle.source.specs.Limits.{limits}
 use Rattle.source.specs.Within.{Operation, DiskAllowed, DiskWithin}
 use Rattle.source.specs.Laws.Unique.{recvWriteJournal-one}
-use Rattle.disk.specs.declared.disk.Disk.{Disk}
-use Rattle.disk.specs.declared.disk.DiskStepped.{DiskStepped}
-use Rattle.disk.specs.declared.disk.DiskAnswer.the-variants as answer
+use Rattle.disk.specs.declared.Disk.{Disk}
+use Rattle.disk.specs.declared.DiskStepped.{DiskStepped}
+use Rattle.disk.specs.declared.DiskAnswer.the-variants as answer
 use Rattle.disk.specs.Disk.{withJournalWrites}
 use Rattle.disk.specs.Questions.{askDisk}
 use Rattle.requests.specs.Receive.{isNew, rowsFor, secondFits, writeReceived}

@@ -7,11 +7,11 @@ use mathlib.Core.List.{List}
 use native.Mathlib.Omega.{arith}
 use lib.ListN.{take}
 use Rattle.laws.specs.Sets.{AtMost, idsOf, keys, at}
-use Rattle.layout.specs.declared.geometry.Geometry.{Geometry}
+use Rattle.layout.specs.declared.Geometry.{Geometry}
 use Rattle.journal.specs.Asked.{journal-blocks, journal-marks, asked-journal}
 use Rattle.journal.specs.Cells.{length-cells}
 use Rattle.journal.specs.Blocks.{cell-size}
-use Rattle.tables.specs.declared.interval_table.IntervalTable.{IntervalTable}
+use Rattle.tables.specs.declared.IntervalTable.{IntervalTable}
 use Rattle.tables.specs.Rows.{Counted}
 use Rattle.tables.specs.IntervalTable.{intervalRows, intervalMap, SizedIntervals}
 use Rattle.tables.specs.Laws.Counts.{count-few, few-count}
@@ -19,7 +19,7 @@ use Rattle.tables.specs.Laws.RowTables.{rows-few, few-rows}
 use Rattle.tables.specs.Laws.IntervalTables.{level-intervals, valid-facts, facts-valid}
 use Rattle.source.specs.Limits.{limits, DiskCounts}
 use Rattle.source.specs.Meets.{DiskShape, DiskMeets}
-use Rattle.disk.specs.declared.disk.Disk.{Disk}
+use Rattle.disk.specs.declared.Disk.{Disk}
 use Rattle.disk.specs.Questions.{askDisk}
 use Rattle.disk.specs.Laws.Questions.{DiskOk, disk-journal, disk-state, asks-disk}
 use Rattle.refine.specs.Disk.View.{diskOf, SizedDisk, Table, DiskTables, Lent}

@@ -11,7 +11,7 @@ use Rattle.laws.specs.Choice.{also-both}
 use Rattle.laws.specs.Fold.{every}
 use Rattle.laws.specs.Cut.{flat, lengths}
 use Rattle.laws.specs.Part.{getD-tab, getD-map-in}
-use Rattle.layout.specs.declared.geometry.Geometry.{Geometry}
+use Rattle.layout.specs.declared.Geometry.{Geometry}
 use Rattle.layout.specs.Geometry.{ValidGeometry}
 use Rattle.interval.specs.Journal.{JournalBlock}
 use Rattle.journal.specs.Memory.{isMark, isOne, askJournal}

@@ -10,15 +10,15 @@ use lib.ListN.{length}
 use Rattle.laws.specs.Choice.{andThen-left, andThen-right, andThen-both, unless-done, unless-kept}
 use Rattle.laws.specs.Cut.{flat}
 use Rattle.laws.specs.Sets.{isKey}
-use Rattle.layout.specs.declared.geometry.Geometry.{Geometry}
+use Rattle.layout.specs.declared.Geometry.{Geometry}
 use Rattle.interval.specs.Interval.{interval}
-use Rattle.superblock.specs.declared.disk_op.DiskOp.{DiskOp}
-use Rattle.superblock.specs.declared.disk_op.DiskOp.the-variants as op
-use Rattle.superblock.specs.declared.disk_op.MaybeId.{MaybeId}
-use Rattle.superblock.specs.declared.disk_op.MaybeId.the-variants as maybe
-use Rattle.superblock.specs.declared.disk_op.JournalRead.{JournalRead}
-use Rattle.superblock.specs.declared.disk_op.JournalRead.the-variants as journalRead
-use Rattle.superblock.specs.declared.superblock.Superblock.{Superblock}
+use Rattle.superblock.specs.declared.DiskOp.{DiskOp}
+use Rattle.superblock.specs.declared.DiskOp.the-variants as op
+use Rattle.superblock.specs.declared.MaybeId.{MaybeId}
+use Rattle.superblock.specs.declared.MaybeId.the-variants as maybe
+use Rattle.superblock.specs.declared.JournalRead.{JournalRead}
+use Rattle.superblock.specs.declared.JournalRead.the-variants as journalRead
+use Rattle.superblock.specs.declared.Superblock.{Superblock}
 use Rattle.journal.specs.Asked.{blocks-asked, asked-blocks}
 use Rattle.journal.specs.Blocks.{flat-size, blocks-flat}
 use Rattle.codec.specs.Codec.{JournalRange}
@@ -28,9 +28,9 @@ use Rattle.source.specs.Limits.{limits, DiskCounts}
 use Rattle.source.specs.Meets.{DiskMeets}
 use Rattle.source.specs.Within.{Operation, DiskAllowed, DiskWithin, WholeBlocks}
 use Rattle.source.specs.Laws.Unique.{disk-next-one}
-use Rattle.disk.specs.declared.disk.Disk.{Disk}
-use Rattle.disk.specs.declared.disk.DiskStepped.{DiskStepped}
-use Rattle.disk.specs.declared.disk.DiskAnswer.the-variants as answer
+use Rattle.disk.specs.declared.Disk.{Disk}
+use Rattle.disk.specs.declared.DiskStepped.{DiskStepped}
+use Rattle.disk.specs.declared.DiskAnswer.the-variants as answer
 use Rattle.disk.specs.Questions.{askDiskOut}
 use Rattle.requests.specs.Acknowledge.{heldInterval, askAckReadJournal}
 use Rattle.disk.specs.Memory.{readOut}

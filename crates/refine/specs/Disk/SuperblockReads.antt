@@ -9,13 +9,13 @@ use native.Mathlib.Omega.{arith}
 use lib.ListN.{length, take}
 use Rattle.laws.specs.Choice.{andThen, ruin}
 use Rattle.laws.specs.Sets.{Ids, join, leave, AtMost, at, put, at-put, eachOf, at-each, each-put, isKey, none-some}
-use Rattle.layout.specs.declared.geometry.Geometry.{Geometry}
-use Rattle.superblock.specs.declared.superblock.Superblock.{Superblock}
-use Rattle.superblock.specs.declared.disk_op.MaybeSuperblock.{MaybeSuperblock}
-use Rattle.superblock.specs.declared.disk_op.MaybeSuperblock.the-variants as slot
-use Rattle.superblock.specs.declared.disk_op.SuperblockRead.{SuperblockRead}
-use Rattle.superblock.specs.declared.disk_op.SuperblockRead.the-variants as read
-use Rattle.tables.specs.declared.id_table.IdTable.{IdTable}
+use Rattle.layout.specs.declared.Geometry.{Geometry}
+use Rattle.superblock.specs.declared.Superblock.{Superblock}
+use Rattle.superblock.specs.declared.MaybeSuperblock.{MaybeSuperblock}
+use Rattle.superblock.specs.declared.MaybeSuperblock.the-variants as slot
+use Rattle.superblock.specs.declared.SuperblockRead.{SuperblockRead}
+use Rattle.superblock.specs.declared.SuperblockRead.the-variants as read
+use Rattle.tables.specs.declared.IdTable.{IdTable}
 use Rattle.tables.specs.Rows.{placeOf}
 use Rattle.tables.specs.IdTable.{idSet, SizedIds, addedId, removedId}
 use Rattle.tables.specs.Laws.Counts.{add-asked, few-add, room-array, has-room}
@@ -24,10 +24,10 @@ use Rattle.source.specs.JournalDisk as D
 use Rattle.source.specs.JournalDisk.{ReqReadSuperblockOp, RespReadSuperblockOp}
 use Rattle.source.specs.Limits.{limits}
 use Rattle.source.specs.Within.{Operation, DiskAllowed, DiskWithin}
-use Rattle.requests.specs.declared.slots.SuperblockReads.{SuperblockReads}
-use Rattle.disk.specs.declared.disk.Disk.{Disk}
-use Rattle.disk.specs.declared.disk.DiskAnswer.the-variants as answer
-use Rattle.disk.specs.declared.disk.SuperblockAnswer.the-variants as superblockAnswer
+use Rattle.requests.specs.declared.SuperblockReads.{SuperblockReads}
+use Rattle.disk.specs.declared.Disk.{Disk}
+use Rattle.disk.specs.declared.DiskAnswer.the-variants as answer
+use Rattle.disk.specs.declared.SuperblockAnswer.the-variants as superblockAnswer
 use Rattle.requests.specs.Slots.{slotAt, readsAt, putReads}
 use Rattle.disk.specs.Questions.{askDisk}
 use Rattle.requests.specs.Receive.{askRecvReadSuperblock}

@@ -6,19 +6,19 @@ use mathlib.Core.List.{List}
 use mathlib.Core.Option.{Option, none, some}
 use Rattle.laws.specs.Choice.{andThen}
 use Rattle.laws.specs.Sets.{at, put, eachOf, at-each, each-put, none-some, same-value}
-use Rattle.layout.specs.declared.geometry.Geometry.{Geometry}
-use Rattle.superblock.specs.declared.superblock.Superblock.{Superblock}
-use Rattle.superblock.specs.declared.disk_op.MaybeSuperblock.{MaybeSuperblock}
+use Rattle.layout.specs.declared.Geometry.{Geometry}
+use Rattle.superblock.specs.declared.Superblock.{Superblock}
+use Rattle.superblock.specs.declared.MaybeSuperblock.{MaybeSuperblock}
 use Rattle.source.specs.JournalDisk as D
 use Rattle.source.specs.JournalDisk.{ReqWriteSuperblock, ReqWriteSuperblockId, ReqWriteSuperblockOp, RespWriteSuperblockOp}
 use Rattle.source.specs.Limits.{limits}
 use Rattle.source.specs.Within.{Operation, Internal, DiskAllowed}
-use Rattle.requests.specs.declared.slots.Slots.{Slots}
-use Rattle.requests.specs.declared.slots.SuperblockWrite.{SuperblockWrite}
-use Rattle.requests.specs.declared.slots.SuperblockWrite.the-variants as write
-use Rattle.requests.specs.declared.slots.SuperblockWrites.{SuperblockWrites}
-use Rattle.disk.specs.declared.disk.Disk.{Disk}
-use Rattle.disk.specs.declared.disk.DiskAnswer.the-variants as answer
+use Rattle.requests.specs.declared.Slots.{Slots}
+use Rattle.requests.specs.declared.SuperblockWrite.{SuperblockWrite}
+use Rattle.requests.specs.declared.SuperblockWrite.the-variants as write
+use Rattle.requests.specs.declared.SuperblockWrites.{SuperblockWrites}
+use Rattle.disk.specs.declared.Disk.{Disk}
+use Rattle.disk.specs.declared.DiskAnswer.the-variants as answer
 use Rattle.requests.specs.Slots.{slotAt, putSlot, writeAt, putWrite, isWrite}
 use Rattle.disk.specs.Questions.{askDisk}
 use Rattle.requests.specs.Receive.{askRecvWriteSuperblock}

@@ -8,8 +8,8 @@ use lib.ListN.{length, take, drop, replicate, length-drop, replicate-append-repl
 use Rattle.laws.specs.Fold.{sum, sum-replicate}
 use Rattle.laws.specs.Cut.{cut, flat, lengths, lengths-cut, flat-cut, cut-flat, cut-append, cut-enough, length-flat}
 use Rattle.laws.specs.Splice.{splice, take-splice, drop-splice, part-splice}
-use Rattle.layout.specs.declared.geometry.Geometry.{Geometry}
-use Rattle.superblock.specs.declared.superblock.Superblock.{Superblock}
+use Rattle.layout.specs.declared.Geometry.{Geometry}
+use Rattle.superblock.specs.declared.Superblock.{Superblock}
 use Rattle.superblock.specs.Laws.{WFSuperblock}
 use Rattle.codec.specs.Codec.{JournalRange}
 use Rattle.loading.specs.Other.{frontBlocks, backBlocks}

@@ -10,21 +10,21 @@ use lib.ListN.{length, drop, replicate}
 use Rattle.laws.specs.Cut.{flat, lengths}
 use Rattle.laws.specs.Splice.{splice}
 use Rattle.laws.specs.Sets.{Map, at, put}
-use Rattle.layout.specs.declared.geometry.Geometry.{Geometry}
-use Rattle.interval.specs.declared.interval.JournalInterval.{JournalInterval}
+use Rattle.layout.specs.declared.Geometry.{Geometry}
+use Rattle.interval.specs.declared.JournalInterval.{JournalInterval}
 use Rattle.interval.specs.Laws.{lenOf}
-use Rattle.superblock.specs.declared.disk_op.JournalRead.{JournalRead}
-use Rattle.superblock.specs.declared.disk_op.JournalRead.the-variants as read
+use Rattle.superblock.specs.declared.JournalRead.{JournalRead}
+use Rattle.superblock.specs.declared.JournalRead.the-variants as read
 use Rattle.superblock.specs.Laws.{WFSuperblock}
 use Rattle.codec.specs.Codec.{JournalRange}
 use Rattle.source.specs.JournalDisk.{ReqId, RespReadJournalOp}
 use Rattle.source.specs.JournalCache as M
 use Rattle.source.specs.JournalCache.{SyncReqStatus, Variables, LoadingOtherVariables, journalIntervalOfSuperblock}
 use Rattle.source.specs.Departures.{NoOp⁺, PageInJournalResp⁺, DamagedJournal}
-use Rattle.loading.specs.declared.pieces.Piece.{Piece}
-use Rattle.loading.specs.declared.pieces.Piece.the-variants as piece
-use Rattle.loading.specs.declared.other.LoadingOther.{LoadingOther}
-use Rattle.loading.specs.declared.other.Paged.{Paged}
+use Rattle.loading.specs.declared.Piece.{Piece}
+use Rattle.loading.specs.declared.Piece.the-variants as piece
+use Rattle.loading.specs.declared.LoadingOther.{LoadingOther}
+use Rattle.loading.specs.declared.Paged.{Paged}
 use Rattle.loading.specs.Which.{isSecond}
 use Rattle.loading.specs.Other.{frontBlocks, backBlocks, loadingOtherOk, toPieces, placeOf, pageInJournalRespNext}
 use Rattle.loading.specs.Laws.Other.{LoadingOtherOk, loading-other-facts, front-blocks-is, back-blocks-is, front-some, back-some, Awaiting, front, back, nobody, awaiting, front-place, front-next, back-place, back-next, nobody-place, nobody-next}

@@ -8,16 +8,16 @@ use mathlib.Core.Option.{Option, some, Option·getD}
 use lib.ListN.{take}
 use Rattle.laws.specs.Cut.{cut, flat}
 use Rattle.laws.specs.Sets.{Map, at}
-use Rattle.layout.specs.declared.geometry.Geometry.{Geometry}
+use Rattle.layout.specs.declared.Geometry.{Geometry}
 use Rattle.layout.specs.Geometry.{NumJournalBlocks}
-use Rattle.interval.specs.declared.interval.JournalInterval.{JournalInterval}
+use Rattle.interval.specs.declared.JournalInterval.{JournalInterval}
 use Rattle.interval.specs.Laws.{lenOf, parts-none, parts-straight, parts-wrapped, parts-cases}
 use Rattle.superblock.specs.Superblock.{JournalFrontIntervalOfSuperblock, JournalBackIntervalOfSuperblock}
 use Rattle.codec.specs.Codec.{JournalRange, Codec}
 use Rattle.source.specs.JournalDisk.{DiskOp}
 use Rattle.source.specs.JournalCache.{SyncReqStatus, ReadyVariables, LoadingOtherVariables, loadedRange, loaded, FinishLoadingOtherPhaseClauses}
-use Rattle.loading.specs.declared.pieces.Piece.{Piece}
-use Rattle.loading.specs.declared.other.LoadingOther.{LoadingOther}
+use Rattle.loading.specs.declared.Piece.{Piece}
+use Rattle.loading.specs.declared.LoadingOther.{LoadingOther}
 use Rattle.loading.specs.Other.{frontBlocks, backBlocks, loadingOtherOk, askFinishLoadingOtherPhase, loadedBlocks}
 use Rattle.loading.specs.Laws.Other.{There, LoadingOtherOk, loading-other-facts, front-blocks-is, blocks-add, FinishLoadingOtherPhaseAsked, finish-loading-other-phase-asked, asked-finish-loading-other-phase}
 use Rattle.refine.specs.Machine.LoadingView.{blocksIn, frontIn, backIn, loadedPiece, loadingOtherOf}

@@ -8,8 +8,8 @@ use mathlib.Core.Option.{some}
 use lib.ListN.{length, drop, replicate}
 use Rattle.laws.specs.Cut.{lengths}
 use Rattle.laws.specs.Sets.{Map, at, put, none-some}
-use Rattle.layout.specs.declared.geometry.Geometry.{Geometry}
-use Rattle.interval.specs.declared.interval.JournalInterval.{JournalInterval}
+use Rattle.layout.specs.declared.Geometry.{Geometry}
+use Rattle.interval.specs.declared.JournalInterval.{JournalInterval}
 use Rattle.interval.specs.Laws.{lenOf}
 use Rattle.superblock.specs.Superblock.{JournalFrontIntervalOfSuperblock, JournalBackIntervalOfSuperblock}
 use Rattle.superblock.specs.Laws.{WFSuperblock}
@@ -17,9 +17,9 @@ use Rattle.codec.specs.Codec.{JournalRange}
 use Rattle.source.specs.JournalDisk.{ReqId, DiskOp, ReqReadJournalOp}
 use Rattle.source.specs.JournalCache as M
 use Rattle.source.specs.JournalCache.{SyncReqStatus, Variables, LoadingOtherVariables, journalIntervalOfSuperblock, unlessIs, PageInJournalReq}
-use Rattle.loading.specs.declared.pieces.Piece.{Piece}
-use Rattle.loading.specs.declared.pieces.Piece.the-variants as piece
-use Rattle.loading.specs.declared.other.LoadingOther.{LoadingOther}
+use Rattle.loading.specs.declared.Piece.{Piece}
+use Rattle.loading.specs.declared.Piece.the-variants as piece
+use Rattle.loading.specs.declared.LoadingOther.{LoadingOther}
 use Rattle.loading.specs.Which.{isSecond}
 use Rattle.loading.specs.Pieces.{withoutRead}
 use Rattle.loading.specs.Other.{frontBlocks, backBlocks, loadingOtherOk, intervalAt, pieceAt, toPieces, askPageInJournalReq, pageInJournalReqInterval, pageInJournalReqNext}

@@ -13,19 +13,19 @@ use Rattle.laws.specs.Choice.{asked-yes, asked-no, split-eq, split-le}
 use Rattle.laws.specs.Cut.{flat, lengths}
 use Rattle.laws.specs.Splice.{splice, clipped, clipped-fits, clipped-past, splice-none}
 use Rattle.laws.specs.Sets.{Map}
-use Rattle.layout.specs.declared.geometry.Geometry.{Geometry}
-use Rattle.interval.specs.declared.interval.JournalInterval.{JournalInterval}
+use Rattle.layout.specs.declared.Geometry.{Geometry}
+use Rattle.interval.specs.declared.JournalInterval.{JournalInterval}
 use Rattle.interval.specs.Interval.{interval}
-use Rattle.superblock.specs.declared.disk_op.JournalRead.{JournalRead}
-use Rattle.superblock.specs.declared.disk_op.JournalRead.the-variants as read
+use Rattle.superblock.specs.declared.JournalRead.{JournalRead}
+use Rattle.superblock.specs.declared.JournalRead.the-variants as read
 use Rattle.codec.specs.Codec.{JournalRange}
 use Rattle.journal.specs.Memory.{askSize, copyBlocks}
 use Rattle.journal.specs.Asked.{size-asked, asked-size}
 use Rattle.source.specs.JournalDisk.{ReqId, RespReadJournalOp}
 use Rattle.source.specs.JournalCache.{SyncReqStatus, Variables, journalIntervalOfSuperblock}
 use Rattle.source.specs.Departures.{NoOp⁺, PageInJournalResp⁺, DamagedJournal}
-use Rattle.loading.specs.declared.other.LoadingOther.{LoadingOther}
-use Rattle.loading.specs.declared.other.Paged.{Paged}
+use Rattle.loading.specs.declared.LoadingOther.{LoadingOther}
+use Rattle.loading.specs.declared.Paged.{Paged}
 use Rattle.loading.specs.Other.{loadingOtherOk, place, placeOf, pageInJournalRespNext}
 use Rattle.loading.specs.Laws.Other.{loading-other-facts, place-in}
 use Rattle.machine.specs.Loading.{wholePlace, askPiece, pagedPieces}

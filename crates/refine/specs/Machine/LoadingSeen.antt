@@ -6,19 +6,19 @@ use mathlib.Core.Option.{Option, none, some}
 use lib.Dec.{eqb}
 use Rattle.laws.specs.Choice.{ruin}
 use Rattle.laws.specs.Sets.{at, none-some}
-use Rattle.layout.specs.declared.geometry.Geometry.{Geometry}
-use Rattle.interval.specs.declared.interval.JournalInterval.{JournalInterval}
-use Rattle.superblock.specs.declared.superblock.Superblock.{Superblock}
-use Rattle.superblock.specs.declared.disk_op.SuperblockRead.{SuperblockRead}
-use Rattle.superblock.specs.declared.disk_op.SuperblockRead.the-variants as read
+use Rattle.layout.specs.declared.Geometry.{Geometry}
+use Rattle.interval.specs.declared.JournalInterval.{JournalInterval}
+use Rattle.superblock.specs.declared.Superblock.{Superblock}
+use Rattle.superblock.specs.declared.SuperblockRead.{SuperblockRead}
+use Rattle.superblock.specs.declared.SuperblockRead.the-variants as read
 use Rattle.superblock.specs.Superblock.{JournalFrontIntervalOfSuperblock, JournalBackIntervalOfSuperblock, wfSuperblock}
 use Rattle.codec.specs.Codec.{JournalRange}
 use Rattle.source.specs.JournalDisk.{ReqId}
 use Rattle.source.specs.JournalCache.{SuperblockSuccess, SuperblockUnfinished, SuperblockCorruption, superblockRead, journalIntervalOfSuperblock, unlessIs}
-use Rattle.loading.specs.declared.slots.SlotRead.{SlotRead}
-use Rattle.loading.specs.declared.slots.SlotRead.the-variants as slot
-use Rattle.loading.specs.declared.pieces.Piece.{Piece}
-use Rattle.loading.specs.declared.pieces.Piece.the-variants as piece
+use Rattle.loading.specs.declared.SlotRead.{SlotRead}
+use Rattle.loading.specs.declared.SlotRead.the-variants as slot
+use Rattle.loading.specs.declared.Piece.{Piece}
+use Rattle.loading.specs.declared.Piece.the-variants as piece
 use Rattle.loading.specs.Slots.{slotRead}
 use Rattle.loading.specs.Pieces.{withoutRead}
 use Rattle.loading.specs.Laws.Other.{There}

@@ -9,18 +9,18 @@ use mathlib.Core.Option.{Option, none, some}
 use mathlib.Core.Logic.{_⊎_, inl, inr}
 use Rattle.laws.specs.Choice.{split-bool, true-false, not-so}
 use Rattle.laws.specs.Sets.{Map, no-keys, Two, at, put, put-at}
-use Rattle.layout.specs.declared.geometry.Geometry.{Geometry}
-use Rattle.superblock.specs.declared.superblock.Superblock.{Superblock}
-use Rattle.superblock.specs.declared.disk_op.SuperblockRead.{SuperblockRead}
+use Rattle.layout.specs.declared.Geometry.{Geometry}
+use Rattle.superblock.specs.declared.Superblock.{Superblock}
+use Rattle.superblock.specs.declared.SuperblockRead.{SuperblockRead}
 use Rattle.superblock.specs.Laws.{WFSuperblock}
 use Rattle.source.specs.JournalDisk.{ReqId, DiskOp, ReqReadSuperblockOp, RespReadSuperblockOp, NoDiskOp}
 use Rattle.source.specs.JournalCache as M
 use Rattle.source.specs.JournalCache.{SyncReqStatus, SuperblockReadResult, SuperblockSuccess, SuperblockUnfinished, SuperblockCorruption, Variables, superblockRead, PageInSuperblockResp, FinishLoadingSuperblockPhase}
 use Rattle.source.specs.Departures.{NoOp⁺, PageInSuperblockReq⁺, AskAgain}
-use Rattle.loading.specs.declared.slots.SlotRead.{SlotRead}
-use Rattle.loading.specs.declared.slots.SlotRead.the-variants as slot
-use Rattle.loading.specs.declared.superblocks.LoadingSuperblock.{LoadingSuperblock}
-use Rattle.loading.specs.declared.other.LoadingOther.{LoadingOther}
+use Rattle.loading.specs.declared.SlotRead.{SlotRead}
+use Rattle.loading.specs.declared.SlotRead.the-variants as slot
+use Rattle.loading.specs.declared.LoadingSuperblock.{LoadingSuperblock}
+use Rattle.loading.specs.declared.LoadingOther.{LoadingOther}
 use Rattle.loading.specs.Which.{isSecond}
 use Rattle.loading.specs.Slots.{slotRead}
 use Rattle.loading.specs.Other.{selectedOther}

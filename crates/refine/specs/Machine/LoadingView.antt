@@ -8,19 +8,19 @@ use mathlib.Core.Option.{Option, none, some}
 use lib.ListN.{drop, replicate}
 use Rattle.laws.specs.Cut.{cut}
 use Rattle.laws.specs.Sets.{Map, Two, at}
-use Rattle.layout.specs.declared.geometry.Geometry.{Geometry}
-use Rattle.superblock.specs.declared.superblock.Superblock.{Superblock}
-use Rattle.superblock.specs.declared.disk_op.SuperblockRead.{SuperblockRead}
-use Rattle.superblock.specs.declared.disk_op.SuperblockRead.the-variants as superblockRead
+use Rattle.layout.specs.declared.Geometry.{Geometry}
+use Rattle.superblock.specs.declared.Superblock.{Superblock}
+use Rattle.superblock.specs.declared.SuperblockRead.{SuperblockRead}
+use Rattle.superblock.specs.declared.SuperblockRead.the-variants as superblockRead
 use Rattle.codec.specs.Codec.{JournalRange}
 use Rattle.source.specs.JournalDisk.{ReqId}
 use Rattle.source.specs.JournalCache.{SyncReqStatus, SuperblockReadResult, SuperblockSuccess, SuperblockUnfinished, SuperblockCorruption, LoadingOtherVariables, LoadingSuperblockVariables, Variables, InvLoadingOther, InvLoadingSuperblock}
-use Rattle.loading.specs.declared.slots.SlotRead.{SlotRead}
-use Rattle.loading.specs.declared.slots.SlotRead.the-variants as slot
-use Rattle.loading.specs.declared.superblocks.LoadingSuperblock.{LoadingSuperblock}
-use Rattle.loading.specs.declared.pieces.Piece.{Piece}
-use Rattle.loading.specs.declared.pieces.Piece.the-variants as piece
-use Rattle.loading.specs.declared.other.LoadingOther.{LoadingOther}
+use Rattle.loading.specs.declared.SlotRead.{SlotRead}
+use Rattle.loading.specs.declared.SlotRead.the-variants as slot
+use Rattle.loading.specs.declared.LoadingSuperblock.{LoadingSuperblock}
+use Rattle.loading.specs.declared.Piece.{Piece}
+use Rattle.loading.specs.declared.Piece.the-variants as piece
+use Rattle.loading.specs.declared.LoadingOther.{LoadingOther}
 use Rattle.loading.specs.Which.{isSecond}
 use Rattle.loading.specs.Other.{frontBlocks, backBlocks}
 

@@ -4,12 +4,12 @@ use mathlib.Core.Bool.{true}
 use mathlib.Core.Path.{_≡_, refl, sym, _∙_, ap}
 use mathlib.Core.List.{[]}
 use Rattle.laws.specs.Choice.{andThen-left, andThen-right, andThen-both, ruin}
-use Rattle.layout.specs.declared.geometry.Geometry.{Geometry}
-use Rattle.layout.specs.declared.location.Location.{Location}
-use Rattle.superblock.specs.declared.disk_op.DiskOp.{DiskOp}
+use Rattle.layout.specs.declared.Geometry.{Geometry}
+use Rattle.layout.specs.declared.Location.{Location}
+use Rattle.superblock.specs.declared.DiskOp.{DiskOp}
 use Rattle.codec.specs.Format.{format}
-use Rattle.ready.specs.declared.frozen.MaybeLocation.{MaybeLocation}
-use Rattle.ready.specs.declared.frozen.MaybeLocation.the-variants.{NoLocation, Received}
+use Rattle.ready.specs.declared.MaybeLocation.{MaybeLocation}
+use Rattle.ready.specs.declared.MaybeLocation.the-variants.{NoLocation, Received}
 use Rattle.ready.specs.State.{isReceived}
 use Rattle.ready.specs.CommitSteps.{askAdvanceLog, askAdvanceLocation, advancedLocation, advanceLocationNext}
 use Rattle.ready.specs.Laws.Asked.{location-asked}
@@ -19,8 +19,8 @@ use Rattle.source.specs.JournalCache.{Variables, WriteBackSuperblockReq-Advance
 use Rattle.source.specs.Limits.{limits}
 use Rattle.source.specs.Departures.{Source}
 use Rattle.source.specs.Within.{MachineAllowed, MachineWithin}
-use Rattle.machine.specs.declared.machine.Machine.{Machine}
-use Rattle.machine.specs.declared.machine.MachineAnswer.the-variants as answer
+use Rattle.machine.specs.declared.Machine.{Machine}
+use Rattle.machine.specs.declared.MachineAnswer.the-variants as answer
 use Rattle.machine.specs.Machine.{askReady}
 use Rattle.machine.specs.Lent.{Lent}
 use Rattle.machine.specs.Working.{askAdvanceLogStep, advanceLogOp, advanceLogMachine, askAdvanceLocationStep, receivedOr, newLocation, advanceLocationOp, advanceLocationMachine, commitRequested}

@@ -8,8 +8,8 @@ use mathlib.Core.Option.{some}
 use native.Mathlib.Omega.{arith}
 use Rattle.laws.specs.Choice.{andThen, split-bool, not-so}
 use Rattle.laws.specs.Sets.{Map}
-use Rattle.layout.specs.declared.geometry.Geometry.{Geometry}
-use Rattle.superblock.specs.declared.disk_op.DiskOp.{DiskOp}
+use Rattle.layout.specs.declared.Geometry.{Geometry}
+use Rattle.superblock.specs.declared.DiskOp.{DiskOp}
 use Rattle.codec.specs.Format.{format}
 use Rattle.tables.specs.SyncTable.{syncMap}
 use Rattle.loading.specs.Laws.Which.{asked-which}
@@ -24,9 +24,9 @@ use Rattle.source.specs.Meets.{MachineMeets}
 use Rattle.source.specs.Departures.{NoOp⁺, Source}
 use Rattle.source.specs.Within.{MachineAllowed}
 use Rattle.source.specs.Laws.Cases.{by-ready}
-use Rattle.machine.specs.declared.machine.Kind.the-variants as kind
-use Rattle.machine.specs.declared.machine.Machine.{Machine}
-use Rattle.machine.specs.declared.machine.MachineAnswer.the-variants as answer
+use Rattle.machine.specs.declared.Kind.the-variants as kind
+use Rattle.machine.specs.declared.Machine.{Machine}
+use Rattle.machine.specs.declared.MachineAnswer.the-variants as answer
 use Rattle.machine.specs.Lent.{Lent}
 use Rattle.machine.specs.Questions.{askMachine}
 use Rattle.machine.specs.Working.{syncs2to1, answeredSync, commitAnswered, askWriteBackSuperblockRespStep, writeBackSuperblockRespOp, writeBackSuperblockRespMachine}

@@ -9,9 +9,9 @@ use Rattle.laws.specs.Choice.{andThen-left, andThen-right, andThen-both, unless
 use Rattle.laws.specs.Fold.{sum}
 use Rattle.laws.specs.Cut.{cut, flat, lengths, length-lengths, length-flat, cut-flat}
 use Rattle.laws.specs.Splice.{splice, clipped, clipped-fits}
-use Rattle.layout.specs.declared.geometry.Geometry.{Geometry}
-use Rattle.superblock.specs.declared.disk_op.DiskOp.{DiskOp}
-use Rattle.superblock.specs.declared.disk_op.DiskOp.the-variants as op
+use Rattle.layout.specs.declared.Geometry.{Geometry}
+use Rattle.superblock.specs.declared.DiskOp.{DiskOp}
+use Rattle.superblock.specs.declared.DiskOp.the-variants as op
 use Rattle.range.specs.Memory.{view, total, length-view, lengths-view}
 use Rattle.memory.specs.Answer.{refusal, refusal-counted, counted-done}
 use Rattle.memory.specs.Limits.{storeLimits}
@@ -27,9 +27,9 @@ use Rattle.source.specs.JournalCache.{Variables, AdvanceStep, AdvanceClauses}
 use Rattle.source.specs.Limits.{limits, MachineCounts, StepLimits}
 use Rattle.source.specs.Departures.{Source}
 use Rattle.source.specs.Within.{MachineAllowed, MachineWithin}
-use Rattle.machine.specs.declared.machine.Kind.the-variants as kind
-use Rattle.machine.specs.declared.machine.Machine.{Machine}
-use Rattle.machine.specs.declared.machine.MachineAnswer.the-variants as answer
+use Rattle.machine.specs.declared.Kind.the-variants as kind
+use Rattle.machine.specs.declared.Machine.{Machine}
+use Rattle.machine.specs.declared.MachineAnswer.the-variants as answer
 use Rattle.machine.specs.Lent.{Lent}
 use Rattle.machine.specs.Questions.{bodiesOf}
 use Rattle.machine.specs.Working.{countIn, givenOf, askAdvanceStep, advanceMachine, appendedBytes, appendedLens}

@@ -11,16 +11,16 @@ use Rattle.laws.specs.Choice.{andThen-left, andThen-right, andThen-both, ask-ho
 use Rattle.laws.specs.Cut.{flat, lengths}
 use Rattle.laws.specs.Splice.{splice}
 use Rattle.laws.specs.Sets.{Map}
-use Rattle.layout.specs.declared.geometry.Geometry.{Geometry}
-use Rattle.superblock.specs.declared.disk_op.DiskOp.{DiskOp}
-use Rattle.superblock.specs.declared.disk_op.DiskOp.the-variants as op
+use Rattle.layout.specs.declared.Geometry.{Geometry}
+use Rattle.superblock.specs.declared.DiskOp.{DiskOp}
+use Rattle.superblock.specs.declared.DiskOp.the-variants as op
 use Rattle.range.specs.Form.{LengthWidth, MostEntryLength, allEntries, allParse}
 use Rattle.range.specs.Form as Form
 use Rattle.range.specs.Ranges.{parseAll-parses, parseAll-entries, parseAll-some, allEntries-count, allEntries-bytes, allEntries-each}
 use Rattle.unpacker.specs.Unpack.{askUnpack, Room, unpack-asked, lent}
 use Rattle.memory.specs.ReplayAfter.{filled-entries}
 use Rattle.codec.specs.Format.{parseBlocks, format}
-use Rattle.loading.specs.declared.other.LoadingOther.{LoadingOther}
+use Rattle.loading.specs.declared.LoadingOther.{LoadingOther}
 use Rattle.loading.specs.Other.{loadingOtherOk, askFinishLoadingOtherPhase, loadedBlocks}
 use Rattle.ready.specs.State.{loaded}
 use Rattle.source.specs.JournalDisk as D
@@ -29,8 +29,8 @@ use Rattle.source.specs.JournalCache.{SyncReqStatus, Variables, LoadingOtherVar
 use Rattle.source.specs.Limits.{limits}
 use Rattle.source.specs.Departures.{Source, FinishLoadingOtherPhase⁺}
 use Rattle.source.specs.Within.{MachineAllowed, MachineWithin}
-use Rattle.machine.specs.declared.machine.Machine.{Machine}
-use Rattle.machine.specs.declared.machine.MachineAnswer.the-variants as answer
+use Rattle.machine.specs.declared.Machine.{Machine}
+use Rattle.machine.specs.declared.MachineAnswer.the-variants as answer
 use Rattle.machine.specs.Lent.{Lent}
 use Rattle.machine.specs.Questions.{askMachine}
 use Rattle.machine.specs.Loading.{askFinishLoadingOtherPhaseStep, askLoaded, loadedMachine, finishLoadingOtherPhaseMachine, loadedReplayBytes, loadedReplayLens}

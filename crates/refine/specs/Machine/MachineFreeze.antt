@@ -3,10 +3,10 @@ use mathlib.Core.Path.{_≡_, sym, _∙_, ap, subst}
 use mathlib.Core.List.{[]}
 use Rattle.laws.specs.Choice.{andThen-left, andThen-right, andThen-both}
 use Rattle.laws.specs.Sets.{Map}
-use Rattle.layout.specs.declared.geometry.Geometry.{Geometry}
-use Rattle.layout.specs.declared.location.Location.{Location}
-use Rattle.superblock.specs.declared.disk_op.DiskOp.{DiskOp}
-use Rattle.superblock.specs.declared.disk_op.DiskOp.the-variants as op
+use Rattle.layout.specs.declared.Geometry.{Geometry}
+use Rattle.layout.specs.declared.Location.{Location}
+use Rattle.superblock.specs.declared.DiskOp.{DiskOp}
+use Rattle.superblock.specs.declared.DiskOp.the-variants as op
 use Rattle.codec.specs.Format.{format}
 use Rattle.ready.specs.FreezeSteps.{askFreeze, freezeNext, askReceiveFrozenLoc}
 use Rattle.source.specs.JournalDisk as D
@@ -15,9 +15,9 @@ use Rattle.source.specs.JournalCache.{Variables, SyncReqStatus, FreezeStep, Rec
 use Rattle.source.specs.Limits.{limits}
 use Rattle.source.specs.Departures.{Source}
 use Rattle.source.specs.Within.{MachineAllowed, MachineWithin}
-use Rattle.machine.specs.declared.machine.Kind.the-variants as kind
-use Rattle.machine.specs.declared.machine.Machine.{Machine}
-use Rattle.machine.specs.declared.machine.MachineAnswer.the-variants as answer
+use Rattle.machine.specs.declared.Kind.the-variants as kind
+use Rattle.machine.specs.declared.Machine.{Machine}
+use Rattle.machine.specs.declared.MachineAnswer.the-variants as answer
 use Rattle.machine.specs.Machine.{askReady}
 use Rattle.machine.specs.Lent.{Lent}
 use Rattle.machine.specs.Working.{askFreezeStep, freezeMachine, askReceiveFrozenLocStep, receiveFrozenLocMachine}

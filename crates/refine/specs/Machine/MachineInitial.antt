@@ -7,7 +7,7 @@ use native.Mathlib.Omega.{arith}
 use Rattle.laws.specs.Choice.{false-true, ruin}
 use Rattle.laws.specs.Fold.{every}
 use Rattle.laws.specs.Sets.{Map, each, keys, AtMost, Distinct}
-use Rattle.layout.specs.declared.geometry.Geometry.{Geometry}
+use Rattle.layout.specs.declared.Geometry.{Geometry}
 use Rattle.tables.specs.IdTable.{SizedIds}
 use Rattle.tables.specs.SyncTable.{noSyncs, syncMap, validStates}
 use Rattle.tables.specs.Laws.IdTables.{sized-no-ids}

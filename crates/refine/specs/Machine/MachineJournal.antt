@@ -4,16 +4,16 @@ use Prim.Native.Nat.{ℕ, _≤_}
 use mathlib.Core.Path.{_≡_, refl, sym}
 use mathlib.Core.List.{[]}
 use Rattle.laws.specs.Choice.{andThen-left, andThen-right, andThen-both}
-use Rattle.layout.specs.declared.geometry.Geometry.{Geometry}
-use Rattle.superblock.specs.declared.disk_op.DiskOp.{DiskOp}
+use Rattle.layout.specs.declared.Geometry.{Geometry}
+use Rattle.superblock.specs.declared.DiskOp.{DiskOp}
 use Rattle.codec.specs.Format.{format}
 use Rattle.source.specs.JournalDisk as D
 use Rattle.source.specs.JournalCache.{Variables, PageInJournalReqStep, PageInJournalReq}
 use Rattle.source.specs.Limits.{limits}
 use Rattle.source.specs.Departures.{Source}
 use Rattle.source.specs.Within.{MachineAllowed, MachineWithin}
-use Rattle.machine.specs.declared.machine.Machine.{Machine}
-use Rattle.machine.specs.declared.machine.MachineAnswer.the-variants as answer
+use Rattle.machine.specs.declared.Machine.{Machine}
+use Rattle.machine.specs.declared.MachineAnswer.the-variants as answer
 use Rattle.machine.specs.Lent.{Lent}
 use Rattle.machine.specs.Questions.{askMachine}
 use Rattle.machine.specs.Loading.{askPageInJournalReqStep, pageInJournalReqOp, pageInJournalReqMachine}

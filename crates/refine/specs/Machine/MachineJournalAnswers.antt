@@ -9,12 +9,12 @@ use mathlib.Core.Logic.{_⊎_, inl, inr, ⊎-elim}
 use lib.ListN.{length, replicate}
 use Rattle.laws.specs.Choice.{andThen-left, andThen-right, unless-done}
 use Rattle.laws.specs.Cut.{flat, lengths}
-use Rattle.layout.specs.declared.geometry.Geometry.{Geometry}
-use Rattle.interval.specs.declared.interval.JournalInterval.{JournalInterval}
-use Rattle.superblock.specs.declared.disk_op.DiskOp.{DiskOp}
-use Rattle.superblock.specs.declared.disk_op.DiskOp.the-variants as op
-use Rattle.superblock.specs.declared.disk_op.JournalRead.{JournalRead}
-use Rattle.superblock.specs.declared.disk_op.JournalRead.the-variants as read
+use Rattle.layout.specs.declared.Geometry.{Geometry}
+use Rattle.interval.specs.declared.JournalInterval.{JournalInterval}
+use Rattle.superblock.specs.declared.DiskOp.{DiskOp}
+use Rattle.superblock.specs.declared.DiskOp.the-variants as op
+use Rattle.superblock.specs.declared.JournalRead.{JournalRead}
+use Rattle.superblock.specs.declared.JournalRead.the-variants as read
 use Rattle.codec.specs.Codec.{JournalRange}
 use Rattle.codec.specs.Format.{format}
 use Rattle.source.specs.JournalDisk as D
@@ -26,8 +26,8 @@ use Rattle.source.specs.Departures.{Step⁺, NextStep⁺, Source, DamagedJourna
 use Rattle.source.specs.Within.{AwaitedPiece, MachineAllowed, MachineWithin}
 use Rattle.source.specs.Laws.Awaited.{awaited-read}
 use Rattle.loading.specs.Other.{place}
-use Rattle.machine.specs.declared.machine.Machine.{Machine}
-use Rattle.machine.specs.declared.machine.MachineAnswer.the-variants as answer
+use Rattle.machine.specs.declared.Machine.{Machine}
+use Rattle.machine.specs.declared.MachineAnswer.the-variants as answer
 use Rattle.machine.specs.Lent.{Lent}
 use Rattle.machine.specs.Questions.{askMachine}
 use Rattle.machine.specs.Laws.Answers.{next-asked}

@@ -3,11 +3,11 @@
 use mathlib.Core.Path.{_≡_}
 use native.Mathlib.Omega.{arith}
 use Rattle.laws.specs.Choice.{ruin}
-use Rattle.layout.specs.declared.geometry.Geometry.{Geometry}
+use Rattle.layout.specs.declared.Geometry.{Geometry}
 use Rattle.source.specs.JournalCache.{LoadingSuperblockVariables, LoadingOtherVariables, ReadyVariables, isLoadingSuperblock, isLoadingOther, isReady}
-use Rattle.machine.specs.declared.machine.Kind.{Kind}
-use Rattle.machine.specs.declared.machine.Kind.the-variants as kind
-use Rattle.machine.specs.declared.machine.Machine.{Machine}
+use Rattle.machine.specs.declared.Kind.{Kind}
+use Rattle.machine.specs.declared.Kind.the-variants as kind
+use Rattle.machine.specs.declared.Machine.{Machine}
 use Rattle.machine.specs.Machine.{askLoadingSuperblock, askLoadingOther, askReady}
 use Rattle.machine.specs.Lent.{Lent}
 use Rattle.refine.specs.Machine.LoadingView.{loadingSuperblockOf, loadingOtherOf}

@@ -8,9 +8,9 @@ use lib.ListN.{length}
 use Rattle.laws.specs.Choice.{andThen-left, andThen-right, andThen-both, ask-yes, ask-holds, also-left, also-right, also-both}
 use Rattle.laws.specs.Fold.{sum, every}
 use Rattle.laws.specs.Sets.{Map, AtMost, keys}
-use Rattle.layout.specs.declared.geometry.Geometry.{Geometry}
+use Rattle.layout.specs.declared.Geometry.{Geometry}
 use Rattle.layout.specs.Geometry.{NumJournalBlocks}
-use Rattle.tables.specs.declared.sync_table.SyncTable.{SyncTable}
+use Rattle.tables.specs.declared.SyncTable.{SyncTable}
 use Rattle.tables.specs.Rows.{Counted}
 use Rattle.tables.specs.SyncTable.{SizedSyncs, syncMap}
 use Rattle.tables.specs.Laws.Counts.{counted-facts, facts-counted}
@@ -24,14 +24,14 @@ use Rattle.memory.specs.PendingLaws.{pending-asked, asked-pending, frozen-asked
 use Rattle.memory.specs.ReplayLaws.{ReplayLent, replay-lent-asked, asked-replay-lent, replay-asked, asked-replay}
 use Rattle.loading.specs.Superblocks.{loadingSuperblockOk}
 use Rattle.loading.specs.Other.{loadingOtherOk}
-use Rattle.ready.specs.declared.entries.Entries.{Entries}
+use Rattle.ready.specs.declared.Entries.{Entries}
 use Rattle.ready.specs.Inv.{readyOk}
 use Rattle.source.specs.JournalCache.{SyncReqStatus, Variables}
 use Rattle.source.specs.Limits.{limits}
 use Rattle.source.specs.Meets.{MachineMeets}
-use Rattle.machine.specs.declared.machine.Kind.{Kind}
-use Rattle.machine.specs.declared.machine.Kind.the-variants as kind
-use Rattle.machine.specs.declared.machine.Machine.{Machine}
+use Rattle.machine.specs.declared.Kind.{Kind}
+use Rattle.machine.specs.declared.Kind.the-variants as kind
+use Rattle.machine.specs.declared.Machine.{Machine}
 use Rattle.machine.specs.Machine.{MostSyncReqs, byKind}
 use Rattle.machine.specs.Lent.{Lent, askLent}
 use Rattle.machine.specs.Questions.{syncOk, kindOk, machineOk, askEntries, askHeld, askMachine}

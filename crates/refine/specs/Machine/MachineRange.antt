@@ -16,19 +16,19 @@ use Rattle.writer.specs.Entries.{Fits, fits-blocks}
 use Rattle.writer.specs.Ring.{putRange, put-view}
 use Rattle.codec.specs.Codec.{JournalEntry}
 use Rattle.codec.specs.Format.{format, flat-encodeBlocks, lengths-encodeBlocks}
-use Rattle.layout.specs.declared.geometry.Geometry.{Geometry}
+use Rattle.layout.specs.declared.Geometry.{Geometry}
 use Rattle.layout.specs.Geometry.{NumJournalBlocks}
-use Rattle.superblock.specs.declared.disk_op.MaybeId.{MaybeId}
+use Rattle.superblock.specs.declared.MaybeId.{MaybeId}
 use Rattle.lengths.specs.Entries.{entries-first}
-use Rattle.ready.specs.declared.entries.Bodies.{Bodies}
-use Rattle.ready.specs.declared.ready.Ready.{Ready}
+use Rattle.ready.specs.declared.Bodies.{Bodies}
+use Rattle.ready.specs.declared.Ready.{Ready}
 use Rattle.ready.specs.State.{sent}
 use Rattle.ready.specs.JournalSteps.{sentBlocks}
 use Rattle.ready.specs.Laws.Asked.{MayWrite}
 use Rattle.source.specs.Limits.{limits}
 use Rattle.source.specs.Meets.{MachineMeets}
-use Rattle.machine.specs.declared.machine.Kind.the-variants as kind
-use Rattle.machine.specs.declared.machine.Machine.{Machine}
+use Rattle.machine.specs.declared.Kind.the-variants as kind
+use Rattle.machine.specs.declared.Machine.{Machine}
 use Rattle.machine.specs.Lent.{Lent}
 use Rattle.machine.specs.Questions.{bodiesOf}
 use Rattle.machine.specs.Working.{sentRange}

@@ -7,9 +7,9 @@ use native.Mathlib.Omega.{arith}
 use borrow.Author.Tests.{leb-true}
 use Rattle.laws.specs.Choice.{andThen-left, andThen-right, andThen-both, also-left, ask-yes, ask-holds}
 use Rattle.laws.specs.Fold.{sum, every}
-use Rattle.layout.specs.declared.geometry.Geometry.{Geometry}
-use Rattle.superblock.specs.declared.disk_op.DiskOp.{DiskOp}
-use Rattle.superblock.specs.declared.disk_op.DiskOp.the-variants as op
+use Rattle.layout.specs.declared.Geometry.{Geometry}
+use Rattle.superblock.specs.declared.DiskOp.{DiskOp}
+use Rattle.superblock.specs.declared.DiskOp.the-variants as op
 use Rattle.range.specs.Form.{okLength}
 use Rattle.range.specs.Memory.{view}
 use Rattle.lengths.specs.Entries.{part-is}
@@ -28,9 +28,9 @@ use Rattle.source.specs.Meets.{MachineMeets}
 use Rattle.source.specs.Departures.{Source}
 use Rattle.source.specs.Within.{MachineAllowed, MachineWithin}
 use Rattle.source.specs.Laws.Cases.{by-ready}
-use Rattle.machine.specs.declared.machine.Kind.the-variants as kind
-use Rattle.machine.specs.declared.machine.Machine.{Machine}
-use Rattle.machine.specs.declared.machine.MachineAnswer.the-variants as answer
+use Rattle.machine.specs.declared.Kind.the-variants as kind
+use Rattle.machine.specs.declared.Machine.{Machine}
+use Rattle.machine.specs.declared.MachineAnswer.the-variants as answer
 use Rattle.machine.specs.Lent.{Lent}
 use Rattle.machine.specs.Working.{askReplayGiven, askReplayStep, replayMachine}
 use Rattle.machine.specs.Whole.{replay}

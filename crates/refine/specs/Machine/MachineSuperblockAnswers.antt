@@ -4,12 +4,12 @@ use mathlib.Core.Path.{_≡_, refl, sym, _∙_, ap, subst}
 use mathlib.Core.List.{[]}
 use mathlib.Core.Option.{Option, none, some}
 use mathlib.Core.Logic.{_⊎_, inl, inr, ⊎-elim}
-use Rattle.layout.specs.declared.geometry.Geometry.{Geometry}
-use Rattle.superblock.specs.declared.disk_op.DiskOp.{DiskOp}
-use Rattle.superblock.specs.declared.disk_op.DiskOp.the-variants as op
-use Rattle.superblock.specs.declared.disk_op.SuperblockRead.{SuperblockRead}
-use Rattle.superblock.specs.declared.disk_op.SuperblockRead.the-variants as read
-use Rattle.superblock.specs.declared.superblock.Superblock.{Superblock}
+use Rattle.layout.specs.declared.Geometry.{Geometry}
+use Rattle.superblock.specs.declared.DiskOp.{DiskOp}
+use Rattle.superblock.specs.declared.DiskOp.the-variants as op
+use Rattle.superblock.specs.declared.SuperblockRead.{SuperblockRead}
+use Rattle.superblock.specs.declared.SuperblockRead.the-variants as read
+use Rattle.superblock.specs.declared.Superblock.{Superblock}
 use Rattle.codec.specs.Format.{format}
 use Rattle.source.specs.JournalDisk as D
 use Rattle.source.specs.JournalCache as M
@@ -19,8 +19,8 @@ use Rattle.source.specs.Meets.{MachineMeets}
 use Rattle.source.specs.Departures.{Source, NoOp⁺}
 use Rattle.source.specs.Within.{MachineAllowed, MachineWithin}
 use Rattle.loading.specs.Laws.Which.{asked-which}
-use Rattle.machine.specs.declared.machine.Machine.{Machine}
-use Rattle.machine.specs.declared.machine.MachineAnswer.the-variants as answer
+use Rattle.machine.specs.declared.Machine.{Machine}
+use Rattle.machine.specs.declared.MachineAnswer.the-variants as answer
 use Rattle.machine.specs.Lent.{Lent}
 use Rattle.machine.specs.Loading.{askPageInSuperblockRespStep, pageInSuperblockRespOp, pageInSuperblockRespMachine}
 use Rattle.machine.specs.Whole.{pageInSuperblockResp}

@@ -11,10 +11,10 @@ use borrow.Author.Tests.{leb-true, eqb-true, eq-eqb}
 use Rattle.laws.specs.Choice.{andThen-right, andThen-both, ask-yes, ask-holds, also-left, also-right, ruin, split-eq}
 use Rattle.laws.specs.Maps.{mapOf-none}
 use Rattle.laws.specs.Sets.{Ids, Map, bind, unbind, keys, isKey, idsOf, AtMost}
-use Rattle.layout.specs.declared.geometry.Geometry.{Geometry}
-use Rattle.superblock.specs.declared.disk_op.DiskOp.{DiskOp}
-use Rattle.superblock.specs.declared.disk_op.DiskOp.the-variants as op
-use Rattle.tables.specs.declared.sync_table.SyncTable.{SyncTable}
+use Rattle.layout.specs.declared.Geometry.{Geometry}
+use Rattle.superblock.specs.declared.DiskOp.{DiskOp}
+use Rattle.superblock.specs.declared.DiskOp.the-variants as op
+use Rattle.tables.specs.declared.SyncTable.{SyncTable}
 use Rattle.tables.specs.SyncTable.{syncMap, stateMap, orZero, okState, SizedSyncs, addedSync, removedSync}
 use Rattle.tables.specs.Rows.{placeOf}
 use Rattle.tables.specs.Laws.Counts.{add-asked}
@@ -26,8 +26,8 @@ use Rattle.source.specs.JournalCache.{Variables, SyncReqStatus, State1, State3,
 use Rattle.source.specs.Limits.{Limits, limits, MachineCounts}
 use Rattle.source.specs.Departures.{Source}
 use Rattle.source.specs.Within.{MachineAllowed, MachineWithin}
-use Rattle.machine.specs.declared.machine.Machine.{Machine}
-use Rattle.machine.specs.declared.machine.MachineAnswer.the-variants as answer
+use Rattle.machine.specs.declared.Machine.{Machine}
+use Rattle.machine.specs.declared.MachineAnswer.the-variants as answer
 use Rattle.machine.specs.Machine.{MostSyncReqs, withSync}
 use Rattle.machine.specs.Lent.{Lent}
 use Rattle.machine.specs.Questions.{askMachine}

@@ -8,13 +8,13 @@ use mathlib.Core.Option.{Option, none, some}
 use lib.Dec.{eqb}
 use lib.ListN.{length, take}
 use Rattle.laws.specs.Sets.{Map, Distinct}
-use Rattle.layout.specs.declared.geometry.Geometry.{Geometry}
+use Rattle.layout.specs.declared.Geometry.{Geometry}
 use Rattle.layout.specs.Geometry.{NumJournalBlocks, ValidGeometry}
-use Rattle.superblock.specs.declared.disk_op.DiskOp.{DiskOp}
-use Rattle.superblock.specs.declared.disk_op.DiskOp.the-variants as op
-use Rattle.superblock.specs.declared.disk_op.JournalRead.{JournalRead}
-use Rattle.superblock.specs.declared.disk_op.JournalRead.the-variants as journalRead
-use Rattle.tables.specs.declared.sync_table.SyncTable.{SyncTable}
+use Rattle.superblock.specs.declared.DiskOp.{DiskOp}
+use Rattle.superblock.specs.declared.DiskOp.the-variants as op
+use Rattle.superblock.specs.declared.JournalRead.{JournalRead}
+use Rattle.superblock.specs.declared.JournalRead.the-variants as journalRead
+use Rattle.tables.specs.declared.SyncTable.{SyncTable}
 use Rattle.tables.specs.IdTable.{SizedIds}
 use Rattle.tables.specs.SyncTable.{syncMap, SizedSyncs, validStates}
 use Rattle.range.specs.Form.{BlockSize}
@@ -23,7 +23,7 @@ use Rattle.source.specs.JournalDisk as D
 use Rattle.source.specs.JournalCache.{Variables, SyncReqStatus, State1, State2, State3}
 use Rattle.source.specs.Limits.{limits}
 use Rattle.source.specs.Meets.{MachineMeets}
-use Rattle.machine.specs.declared.machine.Machine.{Machine}
+use Rattle.machine.specs.declared.Machine.{Machine}
 use Rattle.machine.specs.Machine.{byKind}
 use Rattle.machine.specs.Lent.{Lent}
 use Rattle.refine.specs.Machine.LoadingView.{superblocksSeen, otherSeen, superblockIn}

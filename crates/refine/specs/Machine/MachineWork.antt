@@ -4,14 +4,14 @@ use Prim.Native.Nat.{ℕ, _≤_}
 use mathlib.Core.Path.{_≡_, refl, sym, ap, subst}
 use borrow.Author.Tests.{ne-eqb}
 use Rattle.laws.specs.Choice.{ruin, split-eq}
-use Rattle.layout.specs.declared.geometry.Geometry.{Geometry}
-use Rattle.tables.specs.declared.sync_table.SyncTable.{SyncTable}
+use Rattle.layout.specs.declared.Geometry.{Geometry}
+use Rattle.tables.specs.declared.SyncTable.{SyncTable}
 use Rattle.tables.specs.SyncTable.{syncMap, moved}
 use Rattle.tables.specs.Laws.SyncTables.{syncs-moved}
 use Rattle.source.specs.JournalCache.{Variables, ReadyVariables, isReady, status3to2, status2to1, syncReqs3to2, syncReqs2to1}
-use Rattle.machine.specs.declared.machine.Kind.{Kind}
-use Rattle.machine.specs.declared.machine.Kind.the-variants as kind
-use Rattle.machine.specs.declared.machine.Machine.{Machine}
+use Rattle.machine.specs.declared.Kind.{Kind}
+use Rattle.machine.specs.declared.Kind.the-variants as kind
+use Rattle.machine.specs.declared.Machine.{Machine}
 use Rattle.machine.specs.Machine.{byKind, askReady}
 use Rattle.machine.specs.Lent.{Lent}
 use Rattle.machine.specs.Questions.{bodies, entryBodies, bodiesOf}

@@ -7,18 +7,18 @@ use mathlib.Core.List.{List, []}
 use lib.ListN.{length}
 use Rattle.laws.specs.Choice.{andThen-left, andThen-right, andThen-both, unless-done}
 use Rattle.laws.specs.Sets.{Map}
-use Rattle.layout.specs.declared.geometry.Geometry.{Geometry}
+use Rattle.layout.specs.declared.Geometry.{Geometry}
 use Rattle.layout.specs.Geometry.{NumJournalBlocks}
-use Rattle.superblock.specs.declared.disk_op.MaybeId.{MaybeId}
-use Rattle.superblock.specs.declared.disk_op.DiskOp.{DiskOp}
-use Rattle.superblock.specs.declared.disk_op.DiskOp.the-variants as op
+use Rattle.superblock.specs.declared.MaybeId.{MaybeId}
+use Rattle.superblock.specs.declared.DiskOp.{DiskOp}
+use Rattle.superblock.specs.declared.DiskOp.the-variants as op
 use Rattle.journal.specs.Asked.{blocks-asked, asked-blocks}
 use Rattle.journal.specs.Cells.{blocksIn}
-use Rattle.tables.specs.declared.sync_table.SyncTable.{SyncTable}
+use Rattle.tables.specs.declared.SyncTable.{SyncTable}
 use Rattle.tables.specs.SyncTable.{syncMap}
 use Rattle.range.specs.Form.{BlockSize}
-use Rattle.ready.specs.declared.entries.Bodies.{Bodies}
-use Rattle.ready.specs.declared.ready.Ready.{Ready}
+use Rattle.ready.specs.declared.Bodies.{Bodies}
+use Rattle.ready.specs.declared.Ready.{Ready}
 use Rattle.ready.specs.State.{noneFrozen, sent, left}
 use Rattle.ready.specs.JournalSteps.{sentBlocks, writeBackJournalReqNext}
 use Rattle.ready.specs.Laws.Asked.{write-asked}
@@ -31,9 +31,9 @@ use Rattle.source.specs.Meets.{MachineMeets}
 use Rattle.source.specs.Departures.{OneRange, WriteBackJournalReq⁺, Source}
 use Rattle.source.specs.Within.{MachineAllowed, MachineWithin}
 use Rattle.source.specs.Laws.Format.{limits-fit}
-use Rattle.machine.specs.declared.machine.Kind.the-variants as kind
-use Rattle.machine.specs.declared.machine.Machine.{Machine}
-use Rattle.machine.specs.declared.machine.MachineAnswer.the-variants as answer
+use Rattle.machine.specs.declared.Kind.the-variants as kind
+use Rattle.machine.specs.declared.Machine.{Machine}
+use Rattle.machine.specs.declared.MachineAnswer.the-variants as answer
 use Rattle.machine.specs.Lent.{Lent}
 use Rattle.machine.specs.Questions.{bodiesOf}
 use Rattle.machine.specs.Working.{sentSync, askWriteBackJournalReqStep, writeBackJournalReqOp, writtenMachine, writeBackJournalReqMachine, sentRange, movedBytes, movedLens}

@@ -5,8 +5,8 @@ use mathlib.Core.Path.{_≡_, refl, sym, _∙_, ap, subst}
 use mathlib.Core.List.{[]}
 use mathlib.Core.Logic.{_⊎_, inl, inr, ⊎-elim}
 use Rattle.laws.specs.Choice.{split-bool, not-so, true-false}
-use Rattle.layout.specs.declared.geometry.Geometry.{Geometry}
-use Rattle.superblock.specs.declared.disk_op.DiskOp.{DiskOp}
+use Rattle.layout.specs.declared.Geometry.{Geometry}
+use Rattle.superblock.specs.declared.DiskOp.{DiskOp}
 use Rattle.tables.specs.IdTable.{idSet}
 use Rattle.ready.specs.JournalSteps.{writeBackJournalRespNext}
 use Rattle.codec.specs.Format.{format}
@@ -19,9 +19,9 @@ use Rattle.source.specs.Meets.{MachineMeets}
 use Rattle.source.specs.Departures.{NoOp⁺, Source}
 use Rattle.source.specs.Within.{MachineAllowed}
 use Rattle.source.specs.Laws.Cases.{by-ready}
-use Rattle.machine.specs.declared.machine.Kind.the-variants as kind
-use Rattle.machine.specs.declared.machine.Machine.{Machine}
-use Rattle.machine.specs.declared.machine.MachineAnswer.the-variants as answer
+use Rattle.machine.specs.declared.Kind.the-variants as kind
+use Rattle.machine.specs.declared.Machine.{Machine}
+use Rattle.machine.specs.declared.MachineAnswer.the-variants as answer
 use Rattle.machine.specs.Machine.{withReady}
 use Rattle.machine.specs.Lent.{Lent}
 use Rattle.machine.specs.Questions.{askMachine}

@@ -10,8 +10,8 @@ use Rattle.laws.specs.Cut.{lengths, lengths-append}
 use Rattle.laws.specs.Splice.{splice}
 use Rattle.laws.specs.Sets.{Map}
 use Rattle.range.specs.Memory.{view, total, length-view, lengths-view, view-take, view-add}
-use Rattle.memory.specs.declared.limits.Limits.{Limits}
-use Rattle.ready.specs.declared.ready.Ready.{Ready}
+use Rattle.memory.specs.declared.Limits.{Limits}
+use Rattle.ready.specs.declared.Ready.{Ready}
 use Rattle.ready.specs.State.{count}
 use Rattle.ready.specs.EntrySteps.{askAdvance, advanceNext}
 use Rattle.ready.specs.Laws.Asked.{advance-asked, asks-advance}

@@ -9,11 +9,11 @@ use lib.Dec.{eqb}
 use borrow.Author.Tests.{eqb-true, eq-eqb}
 use Rattle.laws.specs.Choice.{ruin, split-eq, not-so, true-false}
 use Rattle.laws.specs.Sets.{none-some}
-use Rattle.layout.specs.declared.location.Location.{Location}
-use Rattle.ready.specs.declared.frozen.MaybeLocation.{MaybeLocation}
-use Rattle.ready.specs.declared.frozen.MaybeLocation.the-variants.{NoLocation, Received}
-use Rattle.ready.specs.declared.commit.Commit.{Commit}
-use Rattle.ready.specs.declared.commit.Commit.the-variants as commit
+use Rattle.layout.specs.declared.Location.{Location}
+use Rattle.ready.specs.declared.MaybeLocation.{MaybeLocation}
+use Rattle.ready.specs.declared.MaybeLocation.the-variants.{NoLocation, Received}
+use Rattle.ready.specs.declared.Commit.{Commit}
+use Rattle.ready.specs.declared.Commit.the-variants as commit
 use Rattle.ready.specs.State.{isReceived, isLocation, noCommit, awaitsId}
 use Rattle.ready.specs.Laws.Facts.{received-is, is-received}
 use Rattle.source.specs.JournalDisk.{ReqId}

@@ -8,14 +8,14 @@ use lib.Dec.{eqb}
 use borrow.Author.Tests.{eqb-true}
 use Rattle.laws.specs.Choice.{ruin, false-true, true-false}
 use Rattle.laws.specs.Sets.{Map, none-some}
-use Rattle.layout.specs.declared.geometry.Geometry.{Geometry}
-use Rattle.layout.specs.declared.location.Location.{Location}
-use Rattle.superblock.specs.declared.superblock.Superblock.{Superblock}
+use Rattle.layout.specs.declared.Geometry.{Geometry}
+use Rattle.layout.specs.declared.Location.{Location}
+use Rattle.superblock.specs.declared.Superblock.{Superblock}
 use Rattle.tables.specs.Laws.IdTables.{ids-none}
-use Rattle.ready.specs.declared.commit.Commit.{Commit}
-use Rattle.ready.specs.declared.commit.Commit.the-variants as commit
-use Rattle.ready.specs.declared.frozen.MaybeLocation.the-variants.{Received}
-use Rattle.ready.specs.declared.ready.Ready.{Ready}
+use Rattle.ready.specs.declared.Commit.{Commit}
+use Rattle.ready.specs.declared.Commit.the-variants as commit
+use Rattle.ready.specs.declared.MaybeLocation.the-variants.{Received}
+use Rattle.ready.specs.declared.Ready.{Ready}
 use Rattle.ready.specs.State.{awaitsId, commitSlot, withCommit}
 use Rattle.ready.specs.CommitSteps.{askAdvanceLog, advancedLog, advanceLogNext, askAdvanceLocation, advancedLocation, advanceLocationNext, logCommitted, locationCommitted, answered, writeBackSuperblockRespNext}
 use Rattle.ready.specs.Laws.Asked.{MayCommit, log-asked, asks-log, location-asked, asks-location}

@@ -10,13 +10,13 @@ use Rattle.laws.specs.Choice.{also, also-left, also-right, also-both}
 use Rattle.laws.specs.Fold.{sum, every, sum-append, every-append}
 use Rattle.laws.specs.Cut.{lengths, lengths-append}
 use Rattle.laws.specs.Sets.{no-ids, Distinct}
-use Rattle.tables.specs.declared.id_table.IdTable.{IdTable}
+use Rattle.tables.specs.declared.IdTable.{IdTable}
 use Rattle.tables.specs.IdTable.{idSet}
 use Rattle.tables.specs.Laws.IdTables.{none-ids}
 use Rattle.range.specs.Form.{okLength}
 use Rattle.range.specs.Memory.{view, total, view-none, length-view, lengths-view, view-take}
-use Rattle.ready.specs.declared.entries.Entries.{Entries}
-use Rattle.ready.specs.declared.ready.Ready.{Ready}
+use Rattle.ready.specs.declared.Entries.{Entries}
+use Rattle.ready.specs.declared.Ready.{Ready}
 use Rattle.codec.specs.Codec.{JournalEntry, EntriesFit}
 use Rattle.codec.specs.Format.{fit-lengths, lengths-fit}
 use Rattle.refine.specs.Machine.ReadyView.{ReadyLent, frozenOf, memoryOf, replayOf}

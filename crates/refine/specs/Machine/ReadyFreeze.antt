@@ -7,10 +7,10 @@ use mathlib.Core.List.{[], _++_}
 use native.Mathlib.Omega.{arith}
 use lib.ListN.{length, drop, drop-of-length-le}
 use Rattle.laws.specs.Sets.{Map}
-use Rattle.layout.specs.declared.geometry.Geometry.{Geometry}
-use Rattle.layout.specs.declared.location.Location.{Location}
+use Rattle.layout.specs.declared.Geometry.{Geometry}
+use Rattle.layout.specs.declared.Location.{Location}
 use Rattle.range.specs.Memory.{view, length-view}
-use Rattle.ready.specs.declared.ready.Ready.{Ready}
+use Rattle.ready.specs.declared.Ready.{Ready}
 use Rattle.ready.specs.FreezeSteps.{askFreeze, freezeNext, askReceiveFrozenLoc, receiveFrozenLocNext}
 use Rattle.ready.specs.Laws.Asked.{freeze-asked, asks-freeze, receive-asked, asks-receive}
 use Rattle.source.specs.JournalDisk.{DiskOp, NoDiskOp}

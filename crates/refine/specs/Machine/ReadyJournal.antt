@@ -11,11 +11,11 @@ use borrow.Author.Tests.{eq-eqb, ne-eqb, eqb-true}
 use Rattle.laws.specs.Choice.{andThen-left, andThen-right, andThen-both}
 use Rattle.laws.specs.Sets.{Ids, Map, join, leave, AtMost, few-before, leave-same}
 use Rattle.laws.specs.Splice.{splice}
-use Rattle.layout.specs.declared.geometry.Geometry.{Geometry}
+use Rattle.layout.specs.declared.Geometry.{Geometry}
 use Rattle.layout.specs.Journal.{JournalPosAdd}
-use Rattle.superblock.specs.declared.disk_op.MaybeId.{MaybeId}
-use Rattle.superblock.specs.declared.disk_op.MaybeId.the-variants.{Id, NoId}
-use Rattle.tables.specs.declared.id_table.IdTable.{IdTable}
+use Rattle.superblock.specs.declared.MaybeId.{MaybeId}
+use Rattle.superblock.specs.declared.MaybeId.the-variants.{Id, NoId}
+use Rattle.tables.specs.declared.IdTable.{IdTable}
 use Rattle.tables.specs.Rows.{Counted, askJoin}
 use Rattle.tables.specs.IdTable.{idSet, SizedIds, joinedId}
 use Rattle.tables.specs.Laws.Counts.{few-count, few-join}
@@ -23,10 +23,10 @@ use Rattle.tables.specs.Laws.IdTables.{ids-joined, ids-joined-ok, ids-left, siz
 use Rattle.range.specs.Form as Form
 use Rattle.range.specs.Form.{MostEntryLength, LengthWidth, used, blocksFor}
 use Rattle.range.specs.Memory.{view, total, total-split, view-none, length-view, view-moved, blocksAt-view}
-use Rattle.memory.specs.declared.count.Count.{Count}
-use Rattle.ready.specs.declared.entries.Entries.{Entries}
-use Rattle.ready.specs.declared.entries.Bodies.{Bodies}
-use Rattle.ready.specs.declared.ready.Ready.{Ready}
+use Rattle.memory.specs.declared.Count.{Count}
+use Rattle.ready.specs.declared.Entries.{Entries}
+use Rattle.ready.specs.declared.Bodies.{Bodies}
+use Rattle.ready.specs.declared.Ready.{Ready}
 use Rattle.ready.specs.State.{noneFrozen, count, sent, left}
 use Rattle.ready.specs.Inv.{MostWrites}
 use Rattle.ready.specs.JournalSteps.{sentBlocks, askSecond, askIds, joinedIds, writtenEntries, writtenFrozen, askWriteBackJournalReq, writeBackJournalReqNext, writeBackJournalRespNext}

@@ -10,17 +10,17 @@ use lib.ListN.{length, take, drop}
 use Rattle.laws.specs.Choice.{ruin}
 use Rattle.laws.specs.Fold.{every}
 use Rattle.laws.specs.Sets.{Map, keys, AtMost, none-some}
-use Rattle.layout.specs.declared.geometry.Geometry.{Geometry}
+use Rattle.layout.specs.declared.Geometry.{Geometry}
 use Rattle.layout.specs.Geometry.{NumJournalBlocks}
-use Rattle.superblock.specs.declared.superblock.Superblock.{Superblock}
+use Rattle.superblock.specs.declared.Superblock.{Superblock}
 use Rattle.tables.specs.Laws.Counts.{count-few, few-count}
 use Rattle.tables.specs.Laws.IdTables.{ids-none}
 use Rattle.range.specs.Form.{BlockSize, okLength}
 use Rattle.range.specs.Memory.{total}
-use Rattle.ready.specs.declared.commit.Commit.{Commit}
-use Rattle.ready.specs.declared.commit.Commit.the-variants as commit
-use Rattle.ready.specs.declared.entries.Entries.{Entries}
-use Rattle.ready.specs.declared.ready.Ready.{Ready}
+use Rattle.ready.specs.declared.Commit.{Commit}
+use Rattle.ready.specs.declared.Commit.the-variants as commit
+use Rattle.ready.specs.declared.Entries.{Entries}
+use Rattle.ready.specs.declared.Ready.{Ready}
 use Rattle.ready.specs.State.{withCommit}
 use Rattle.ready.specs.Inv.{MostWrites, readyOk}
 use Rattle.ready.specs.Laws.Facts.{IsNew, InFlight, ReadyFacts, ready-facts, facts-ready}

@@ -9,8 +9,8 @@ use Rattle.laws.specs.Fold.{sum}
 use Rattle.laws.specs.Cut.{lengths}
 use Rattle.laws.specs.Sets.{Map}
 use Rattle.range.specs.Memory.{view, total, total-split, length-view, lengths-view, view-take, view-drop}
-use Rattle.memory.specs.declared.count.Count.{Count}
-use Rattle.ready.specs.declared.ready.Ready.{Ready}
+use Rattle.memory.specs.declared.Count.{Count}
+use Rattle.ready.specs.declared.Ready.{Ready}
 use Rattle.ready.specs.State.{count}
 use Rattle.ready.specs.EntrySteps.{replayNext}
 use Rattle.codec.specs.Codec.{JournalEntry}

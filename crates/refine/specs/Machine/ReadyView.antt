@@ -7,18 +7,18 @@ use mathlib.Core.Option.{Option, none, some}
 use lib.Dec.{eqb}
 use lib.ListN.{drop}
 use Rattle.laws.specs.Sets.{Map}
-use Rattle.layout.specs.declared.location.Location.{Location}
-use Rattle.superblock.specs.declared.superblock.Superblock.{Superblock}
-use Rattle.superblock.specs.declared.disk_op.MaybeId.{MaybeId}
-use Rattle.superblock.specs.declared.disk_op.MaybeId.the-variants.{Id, NoId}
+use Rattle.layout.specs.declared.Location.{Location}
+use Rattle.superblock.specs.declared.Superblock.{Superblock}
+use Rattle.superblock.specs.declared.MaybeId.{MaybeId}
+use Rattle.superblock.specs.declared.MaybeId.the-variants.{Id, NoId}
 use Rattle.tables.specs.IdTable.{idSet}
 use Rattle.range.specs.Memory.{view}
-use Rattle.ready.specs.declared.frozen.MaybeLocation.{MaybeLocation}
-use Rattle.ready.specs.declared.frozen.MaybeLocation.the-variants.{NoLocation, Received}
-use Rattle.ready.specs.declared.commit.Commit.{Commit}
-use Rattle.ready.specs.declared.commit.Commit.the-variants as commit
-use Rattle.ready.specs.declared.entries.Entries.{Entries}
-use Rattle.ready.specs.declared.ready.Ready.{Ready}
+use Rattle.ready.specs.declared.MaybeLocation.{MaybeLocation}
+use Rattle.ready.specs.declared.MaybeLocation.the-variants.{NoLocation, Received}
+use Rattle.ready.specs.declared.Commit.{Commit}
+use Rattle.ready.specs.declared.Commit.the-variants as commit
+use Rattle.ready.specs.declared.Entries.{Entries}
+use Rattle.ready.specs.declared.Ready.{Ready}
 use Rattle.codec.specs.Codec.{JournalEntry}
 use Rattle.source.specs.JournalDisk.{ReqId}
 use Rattle.source.specs.JournalCache.{SyncReqStatus, CommitStatus, CommitNone, CommitAdvanceLog, CommitAdvanceLocation, ReadyVariables}

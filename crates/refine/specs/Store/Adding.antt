@@ -7,14 +7,14 @@ use lib.Dec.{leb}
 use lib.ListN.{length}
 use borrow.Author.Tests.{le-leb}
 use Rattle.laws.specs.Choice.{also-both, andThen, andThen-left, andThen-right, unless-done}
-use Rattle.layout.specs.declared.geometry.Geometry.{Geometry}
-use Rattle.superblock.specs.declared.disk_op.DiskOp.{DiskOp}
-use Rattle.superblock.specs.declared.disk_op.DiskOp.the-variants as op
+use Rattle.layout.specs.declared.Geometry.{Geometry}
+use Rattle.superblock.specs.declared.DiskOp.{DiskOp}
+use Rattle.superblock.specs.declared.DiskOp.the-variants as op
 use Rattle.range.specs.Memory.{view, total}
 use Rattle.codec.specs.Format.{format}
 use Rattle.memory.specs.Answer.{refusal-counted}
 use Rattle.memory.specs.Given.{memory, countOf, askGiven}
-use Rattle.ready.specs.declared.entries.Bodies.{Bodies}
+use Rattle.ready.specs.declared.Bodies.{Bodies}
 use Rattle.source.specs.JournalDisk as D
 use Rattle.source.specs.JournalCache.{AdvanceStep}
 use Rattle.source.specs.Limits.{limits}
@@ -24,8 +24,8 @@ use Rattle.history.specs.Ledger.{Call}
 use Rattle.history.specs.Statement.{Takes, Tied, tied-add}
 use Rattle.machine.specs.Questions.{bodiesOf}
 use Rattle.machine.specs.Working.{givenOf, askAdvanceStep, advanceMachine, appendedBytes, appendedLens}
-use Rattle.store.specs.declared.store.Store.{Store}
-use Rattle.store.specs.declared.store.StoreAnswer.the-variants as answer
+use Rattle.store.specs.declared.Store.{Store}
+use Rattle.store.specs.declared.StoreAnswer.the-variants as answer
 use Rattle.store.specs.Store.{store}
 use Rattle.store.specs.Lent.{Lent, machineLent, askStore, withPending}
 use Rattle.store.specs.Steps.{askBoth, both, add, addedLent}

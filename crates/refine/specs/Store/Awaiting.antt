@@ -6,20 +6,20 @@ use mathlib.Core.Path.{_≡_, refl, sym, _∙_, ap}
 use mathlib.Core.List.{List}
 use mathlib.Core.Option.{Option, none, some}
 use Rattle.laws.specs.Sets.{Map, no-keys, bind, none-some, same-value, bind-here, bind-there}
-use Rattle.layout.specs.declared.geometry.Geometry.{Geometry}
-use Rattle.interval.specs.declared.interval.JournalInterval.{JournalInterval}
+use Rattle.layout.specs.declared.Geometry.{Geometry}
+use Rattle.interval.specs.declared.JournalInterval.{JournalInterval}
 use Rattle.interval.specs.Laws.{lenOf}
 use Rattle.superblock.specs.Superblock.{JournalFrontIntervalOfSuperblock, JournalBackIntervalOfSuperblock}
-use Rattle.superblock.specs.declared.disk_op.JournalRead.the-variants as read
+use Rattle.superblock.specs.declared.JournalRead.the-variants as read
 use Rattle.source.specs.JournalDisk.{ReqId}
 use Rattle.source.specs.JournalCache.{SyncReqStatus}
 use Rattle.source.specs.Meets.{bindRead, awaitedJournalReads}
-use Rattle.loading.specs.declared.pieces.Piece.the-variants as piece
-use Rattle.loading.specs.declared.other.LoadingOther.{LoadingOther}
-use Rattle.loading.specs.declared.other.Paged.{Paged}
+use Rattle.loading.specs.declared.Piece.the-variants as piece
+use Rattle.loading.specs.declared.LoadingOther.{LoadingOther}
+use Rattle.loading.specs.declared.Paged.{Paged}
 use Rattle.loading.specs.Other.{loadingOtherOk, placeOf}
 use Rattle.loading.specs.Laws.Other.{There, loading-other-facts, front-blocks-is, back-blocks-is, Awaiting, front, back, nobody, awaiting, front-place, back-place}
-use Rattle.machine.specs.declared.machine.Machine.{Machine}
+use Rattle.machine.specs.declared.Machine.{Machine}
 use Rattle.machine.specs.Lent.{Lent}
 use Rattle.machine.specs.Questions.{askMachine}
 use Rattle.machine.specs.Loading.{pagedIn}

@@ -3,7 +3,7 @@
 use Prim.Native.Nat.{ℕ}
 use mathlib.Core.Bool.{Bool}
 use mathlib.Core.List.{List}
-use Rattle.layout.specs.declared.geometry.Geometry.{Geometry}
+use Rattle.layout.specs.declared.Geometry.{Geometry}
 use Rattle.codec.specs.Format.{format}
 use Rattle.source.specs.JournalDisk as D
 use Rattle.source.specs.JournalCache as M
@@ -11,7 +11,7 @@ use Rattle.source.specs.JournalSystem as Y
 use Rattle.source.specs.Limits.{limits}
 use Rattle.source.specs.Departures.{Event, MachineStep, DiskInternalStep, CrashStep, Step⁺, Source, DamagedJournalStep, AskAgainStep, Allowed}
 use Rattle.source.specs.Within.{Within}
-use Rattle.store.specs.declared.store.Store.{Store}
+use Rattle.store.specs.declared.Store.{Store}
 use Rattle.store.specs.Lent.{Lent}
 use Rattle.refine.specs.Store.Seen.{seen, SizedStore}
 use Rattle.refine.specs.Store.Done.{StoreForm, Done}

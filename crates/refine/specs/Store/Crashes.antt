@@ -1,6 +1,6 @@
 -- A crash, with a picture and in place: the disk's half is 001's, the machine is 000's Init.
 use mathlib.Core.Path.{_≡_, subst}
-use Rattle.layout.specs.declared.geometry.Geometry.{Geometry}
+use Rattle.layout.specs.declared.Geometry.{Geometry}
 use Rattle.codec.specs.Format.{format}
 use Rattle.journal.specs.Memory.{askJournal}
 use Rattle.journal.specs.Cells.{cells}
@@ -11,7 +11,7 @@ use Rattle.history.specs.Statement.{Takes, tied-crash}
 use Rattle.crash.specs.Picture.{crashedBlocks, crashedMarks}
 use Rattle.crash.specs.Whole.{crashedDisk}
 use Rattle.crash.specs.Laws.Memory.{own-blocks, own-marks}
-use Rattle.store.specs.declared.store.Store.{Store}
+use Rattle.store.specs.declared.Store.{Store}
 use Rattle.store.specs.Lent.{Lent, machineLent, askStore, withJournal}
 use Rattle.store.specs.Steps.{crashed}
 use Rattle.calls.specs.declared.calls.Step.the-variants as step

@@ -4,15 +4,15 @@ use Prim.Native.Nat.{ℕ, _≤_}
 use mathlib.Core.Bool.{Bool}
 use mathlib.Core.Path.{_≡_, refl, sym, subst}
 use mathlib.Core.List.{List, []}
-use Rattle.layout.specs.declared.geometry.Geometry.{Geometry}
-use Rattle.superblock.specs.declared.disk_op.DiskOp.{DiskOp}
-use Rattle.superblock.specs.declared.disk_op.DiskOp.the-variants as op
-use Rattle.superblock.specs.declared.disk_op.SuperblockRead.{SuperblockRead}
-use Rattle.superblock.specs.declared.disk_op.SuperblockRead.the-variants as read
+use Rattle.layout.specs.declared.Geometry.{Geometry}
+use Rattle.superblock.specs.declared.DiskOp.{DiskOp}
+use Rattle.superblock.specs.declared.DiskOp.the-variants as op
+use Rattle.superblock.specs.declared.SuperblockRead.{SuperblockRead}
+use Rattle.superblock.specs.declared.SuperblockRead.the-variants as read
 use Rattle.source.specs.JournalDisk as D
 use Rattle.source.specs.Limits.{limits, DiskCounts}
 use Rattle.source.specs.Laws.Unique.{disk-next-one}
-use Rattle.disk.specs.declared.disk.Disk.{Disk}
+use Rattle.disk.specs.declared.Disk.{Disk}
 use Rattle.requests.specs.Acknowledge.{askReadSuperblockAs}
 use Rattle.disk.specs.Operation.{askDecision, operationNext}
 use Rattle.requests.specs.Laws.Pairs.{bitOf}

@@ -8,18 +8,18 @@ use lib.Dec.{eqb}
 use lib.ListN.{take}
 use Rattle.laws.specs.Choice.{ruin}
 use Rattle.laws.specs.Sets.{idsOf, AtMost, at}
-use Rattle.layout.specs.declared.geometry.Geometry.{Geometry}
-use Rattle.interval.specs.declared.interval.JournalInterval.{JournalInterval}
-use Rattle.interval.specs.declared.answer.MaybeInterval.{MaybeInterval}
-use Rattle.interval.specs.declared.answer.MaybeInterval.the-variants as part
+use Rattle.layout.specs.declared.Geometry.{Geometry}
+use Rattle.interval.specs.declared.JournalInterval.{JournalInterval}
+use Rattle.interval.specs.declared.MaybeInterval.{MaybeInterval}
+use Rattle.interval.specs.declared.MaybeInterval.the-variants as part
 use Rattle.interval.specs.Answer.{maybeInterval}
 use Rattle.interval.specs.Interval.{interval, contiguousJournalInterval, JournalFrontInterval, JournalBackInterval}
-use Rattle.superblock.specs.declared.disk_op.MaybeId.{MaybeId}
-use Rattle.superblock.specs.declared.disk_op.MaybeId.the-variants as maybe
-use Rattle.superblock.specs.declared.disk_op.DiskOp.{DiskOp}
-use Rattle.superblock.specs.declared.disk_op.DiskOp.the-variants as op
-use Rattle.tables.specs.declared.id_table.IdTable.{IdTable}
-use Rattle.tables.specs.declared.interval_table.IntervalTable.{IntervalTable}
+use Rattle.superblock.specs.declared.MaybeId.{MaybeId}
+use Rattle.superblock.specs.declared.MaybeId.the-variants as maybe
+use Rattle.superblock.specs.declared.DiskOp.{DiskOp}
+use Rattle.superblock.specs.declared.DiskOp.the-variants as op
+use Rattle.tables.specs.declared.IdTable.{IdTable}
+use Rattle.tables.specs.declared.IntervalTable.{IntervalTable}
 use Rattle.tables.specs.Rows.{placeOf, Counted, hasRoom}
 use Rattle.tables.specs.IdTable.{idSet, addedId, removedId}
 use Rattle.tables.specs.IntervalTable.{intervalRows, addedInterval}
@@ -28,9 +28,9 @@ use Rattle.tables.specs.Laws.IdTables.{ids-added-ok, ids-removed-ok}
 use Rattle.tables.specs.Laws.RowTables.{rows-second, rows-few}
 use Rattle.tables.specs.Laws.IntervalTables.{intervals-added-ok, intervals-removed-ok, level-intervals}
 use Rattle.source.specs.Limits.{limits, DiskCounts}
-use Rattle.requests.specs.declared.slots.Slots.{Slots}
-use Rattle.requests.specs.declared.slots.SuperblockReads.{SuperblockReads}
-use Rattle.disk.specs.declared.disk.Disk.{Disk}
+use Rattle.requests.specs.declared.Slots.{Slots}
+use Rattle.requests.specs.declared.SuperblockReads.{SuperblockReads}
+use Rattle.disk.specs.declared.Disk.{Disk}
 use Rattle.disk.specs.Disk.{idleDisk}
 use Rattle.requests.specs.Slots.{readsAt, putReads}
 use Rattle.requests.specs.Receive.{readReceived, addedPart, writeReceived, rowsFor, secondFits}

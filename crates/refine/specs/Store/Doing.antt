@@ -7,8 +7,8 @@ use mathlib.Core.List.{List, []}
 use lib.ListN.{length}
 use Rattle.laws.specs.Choice.{andThen, andThen-both}
 use Rattle.laws.specs.Cut.{flat, lengths}
-use Rattle.layout.specs.declared.geometry.Geometry.{Geometry}
-use Rattle.superblock.specs.declared.disk_op.DiskOp.{DiskOp}
+use Rattle.layout.specs.declared.Geometry.{Geometry}
+use Rattle.superblock.specs.declared.DiskOp.{DiskOp}
 use Rattle.range.specs.Memory.{view}
 use Rattle.codec.specs.Codec.{JournalEntry}
 use Rattle.codec.specs.Format.{format}
@@ -19,10 +19,10 @@ use Rattle.source.specs.Departures.{Step⁺, Event, MachineStep, Allowed}
 use Rattle.source.specs.Within.{Within}
 use Rattle.history.specs.Ledger.{Call}
 use Rattle.history.specs.Statement.{Tied}
-use Rattle.machine.specs.declared.machine.Machine.{Machine}
+use Rattle.machine.specs.declared.Machine.{Machine}
 use Rattle.disk.specs.Operation.{askDecision, operationNext}
 use Rattle.requests.specs.Laws.Pairs.{whichOf, which-in, bit-which}
-use Rattle.store.specs.declared.store.Store.{Store}
+use Rattle.store.specs.declared.Store.{Store}
 use Rattle.store.specs.Store.{store}
 use Rattle.store.specs.Lent.{Lent, machineLent}
 use Rattle.store.specs.Steps.{askBoth, both}

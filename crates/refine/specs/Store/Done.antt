@@ -2,15 +2,15 @@
 -- its next state. The hypotheses are the document's words (Allowed, Within) and what record and lent memory add to the view.
 use Prim.Native.Nat.{ℕ}
 use mathlib.Core.Path.{_≡_}
-use Rattle.layout.specs.declared.geometry.Geometry.{Geometry}
-use Rattle.superblock.specs.declared.disk_op.DiskOp.{DiskOp}
+use Rattle.layout.specs.declared.Geometry.{Geometry}
+use Rattle.superblock.specs.declared.DiskOp.{DiskOp}
 use Rattle.source.specs.JournalSystem as Y
 use Rattle.source.specs.Limits.{limits}
 use Rattle.source.specs.Meets.{SystemMeets}
 use Rattle.source.specs.Departures.{Event}
 use Rattle.history.specs.Statement.{Tied}
-use Rattle.store.specs.declared.store.Store.{Store}
-use Rattle.store.specs.declared.store.StoreAnswer.the-variants as answer
+use Rattle.store.specs.declared.Store.{Store}
+use Rattle.store.specs.declared.StoreAnswer.the-variants as answer
 use Rattle.store.specs.Lent.{Lent, machineLent, askStore}
 use Rattle.calls.specs.declared.calls.Step.{Step}
 use Rattle.calls.specs.Given.{Given}

@@ -4,13 +4,13 @@ use mathlib.Core.Path.{_≡_, refl, sym, subst}
 use mathlib.Core.List.{List}
 use lib.ListN.{length}
 use Rattle.laws.specs.Choice.{andThen, andThen-both, unless-done}
-use Rattle.layout.specs.declared.geometry.Geometry.{Geometry}
-use Rattle.superblock.specs.declared.disk_op.DiskOp.the-variants as op
+use Rattle.layout.specs.declared.Geometry.{Geometry}
+use Rattle.superblock.specs.declared.DiskOp.the-variants as op
 use Rattle.range.specs.Memory.{view}
 use Rattle.memory.specs.Given.{memory, countOf}
 use Rattle.codec.specs.Codec.{JournalEntry}
 use Rattle.codec.specs.Format.{format}
-use Rattle.ready.specs.declared.entries.Bodies.{Bodies}
+use Rattle.ready.specs.declared.Bodies.{Bodies}
 use Rattle.source.specs.JournalDisk as D
 use Rattle.source.specs.JournalCache.{AdvanceStep}
 use Rattle.source.specs.JournalSystem as Y
@@ -21,7 +21,7 @@ use Rattle.history.specs.Ledger as ledger
 use Rattle.history.specs.Statement.{tied-add}
 use Rattle.machine.specs.Questions.{bodiesOf}
 use Rattle.machine.specs.Working.{givenOf, askAdvanceStep, advanceMachine, appendedBytes, appendedLens}
-use Rattle.store.specs.declared.store.Store.{Store}
+use Rattle.store.specs.declared.Store.{Store}
 use Rattle.store.specs.Store.{store}
 use Rattle.store.specs.Lent.{Lent, machineLent, withPending}
 use Rattle.store.specs.Steps.{askBoth, both, addedLent}

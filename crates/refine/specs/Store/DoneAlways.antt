@@ -2,8 +2,8 @@
 use Prim.Native.Nat.{ℕ}
 use mathlib.Core.Bool.{Bool}
 use mathlib.Core.Path.{refl, sym, subst}
-use Rattle.layout.specs.declared.geometry.Geometry.{Geometry}
-use Rattle.superblock.specs.declared.disk_op.DiskOp.the-variants as op
+use Rattle.layout.specs.declared.Geometry.{Geometry}
+use Rattle.superblock.specs.declared.DiskOp.the-variants as op
 use Rattle.codec.specs.Format.{format}
 use Rattle.source.specs.JournalDisk as D
 use Rattle.source.specs.JournalCache.{PushSyncReqStep, PopSyncReqStep, NoOpStep}
@@ -17,7 +17,7 @@ use Rattle.machine.specs.Sync.{askPushSyncReq, pushSyncReqMachine, askPopSyncRe
 use Rattle.requests.specs.Landing.{askLand}
 use Rattle.disk.specs.Next.{landNext}
 use Rattle.requests.specs.Laws.Pairs.{whichOf, which-in, bit-which}
-use Rattle.store.specs.declared.store.Store.{Store}
+use Rattle.store.specs.declared.Store.{Store}
 use Rattle.store.specs.Store.{store}
 use Rattle.store.specs.Lent.{Lent, machineLent}
 use Rattle.store.specs.Laws.Answers.{asked-next}

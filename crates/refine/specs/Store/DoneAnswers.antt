@@ -3,7 +3,7 @@ use Prim.Native.Nat.{ℕ, _≤_}
 use mathlib.Core.Bool.{Bool}
 use mathlib.Core.Path.{_≡_, refl, sym, _∙_, ap, subst}
 use mathlib.Core.List.{[]}
-use Rattle.layout.specs.declared.geometry.Geometry.{Geometry}
+use Rattle.layout.specs.declared.Geometry.{Geometry}
 use Rattle.codec.specs.Format.{format}
 use Rattle.loading.specs.Laws.Which.{asked-which}
 use Rattle.source.specs.JournalDisk as D
@@ -17,7 +17,7 @@ use Rattle.history.specs.Statement.{Tied}
 use Rattle.machine.specs.Working.{askWriteBackSuperblockRespStep, writeBackSuperblockRespOp, writeBackSuperblockRespMachine}
 use Rattle.requests.specs.Slots as disk
 use Rattle.requests.specs.Laws.Pairs.{whichOf, which-in}
-use Rattle.store.specs.declared.store.Store.{Store}
+use Rattle.store.specs.declared.Store.{Store}
 use Rattle.store.specs.Lent.{Lent, machineLent}
 use Rattle.calls.specs.declared.calls.Step.the-variants as step
 use Rattle.calls.specs.Step.{stepAnswerWith, stepLentWith, askPicture}

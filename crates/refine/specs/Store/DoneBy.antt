@@ -3,16 +3,16 @@
 use Prim.Native.Nat.{ℕ}
 use mathlib.Core.Path.{_≡_, sym, _∙_, ap, subst}
 use Rattle.laws.specs.Choice.{andThen-both, asked-yes, unless-done}
-use Rattle.layout.specs.declared.geometry.Geometry.{Geometry}
-use Rattle.superblock.specs.declared.disk_op.DiskOp.{DiskOp}
+use Rattle.layout.specs.declared.Geometry.{Geometry}
+use Rattle.superblock.specs.declared.DiskOp.{DiskOp}
 use Rattle.source.specs.JournalDisk as D
 use Rattle.source.specs.JournalSystem as Y
 use Rattle.source.specs.Limits.{limits}
 use Rattle.source.specs.Meets.{SystemMeets}
 use Rattle.source.specs.Departures.{Event}
 use Rattle.history.specs.Statement.{Tied}
-use Rattle.store.specs.declared.store.Store.{Store}
-use Rattle.store.specs.declared.store.StoreStepped.{StoreStepped}
+use Rattle.store.specs.declared.Store.{Store}
+use Rattle.store.specs.declared.StoreStepped.{StoreStepped}
 use Rattle.store.specs.Whole.{asked}
 use Rattle.store.specs.Store.{refused, accepted, answered}
 use Rattle.store.specs.Lent.{Lent}

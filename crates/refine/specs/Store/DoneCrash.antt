@@ -2,9 +2,9 @@
 use mathlib.Core.Path.{_≡_, refl, sym, _∙_, subst}
 use mathlib.Core.List.{List, []}
 use mathlib.Core.Option.{Option}
-use Rattle.layout.specs.declared.geometry.Geometry.{Geometry}
+use Rattle.layout.specs.declared.Geometry.{Geometry}
 use Rattle.interval.specs.Journal.{JournalBlock}
-use Rattle.superblock.specs.declared.disk_op.DiskOp.the-variants as op
+use Rattle.superblock.specs.declared.DiskOp.the-variants as op
 use Rattle.codec.specs.Format.{format}
 use Rattle.journal.specs.Memory.{askJournal}
 use Rattle.journal.specs.Asked.{asked-journal}
@@ -15,7 +15,7 @@ use Rattle.source.specs.Departures.{CrashStep, Allowed}
 use Rattle.source.specs.Within.{Within}
 use Rattle.history.specs.Statement.{tied-crash}
 use Rattle.crash.specs.Picture.{crashedBlocks, crashedMarks}
-use Rattle.store.specs.declared.store.Store.{Store}
+use Rattle.store.specs.declared.Store.{Store}
 use Rattle.store.specs.Lent.{Lent, machineLent, withJournal}
 use Rattle.store.specs.Steps.{crashed}
 use Rattle.calls.specs.declared.calls.Step.the-variants as step

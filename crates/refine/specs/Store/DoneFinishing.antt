@@ -3,8 +3,8 @@ use Prim.Native.Nat.{ℕ}
 use mathlib.Core.Path.{_≡_, refl, sym, subst}
 use mathlib.Core.List.{[]}
 use Rattle.laws.specs.Choice.{andThen, andThen-both, unless-done}
-use Rattle.layout.specs.declared.geometry.Geometry.{Geometry}
-use Rattle.superblock.specs.declared.disk_op.DiskOp.the-variants as op
+use Rattle.layout.specs.declared.Geometry.{Geometry}
+use Rattle.superblock.specs.declared.DiskOp.the-variants as op
 use Rattle.codec.specs.Format.{format}
 use Rattle.source.specs.JournalDisk as D
 use Rattle.source.specs.JournalCache.{FinishLoadingOtherPhaseStep}
@@ -15,7 +15,7 @@ use Rattle.source.specs.Within.{Within}
 use Rattle.history.specs.Ledger as ledger
 use Rattle.history.specs.Statement.{Tied, tied-finish-other}
 use Rattle.machine.specs.Loading.{askLoaded, finishLoadingOtherPhaseMachine, loadedReplayBytes, loadedReplayLens}
-use Rattle.store.specs.declared.store.Store.{Store}
+use Rattle.store.specs.declared.Store.{Store}
 use Rattle.store.specs.Store.{store}
 use Rattle.store.specs.Lent.{Lent, machineLent, withReplay}
 use Rattle.store.specs.Steps.{askBoth, both, finishedLent}

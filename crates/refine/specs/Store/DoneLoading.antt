@@ -5,10 +5,10 @@ use mathlib.Core.Path.{_≡_, refl, sym, _∙_, ap, subst}
 use mathlib.Core.List.{[]}
 use mathlib.Core.Logic.{inl}
 use Rattle.laws.specs.Sets.{isKey}
-use Rattle.layout.specs.declared.geometry.Geometry.{Geometry}
-use Rattle.superblock.specs.declared.disk_op.DiskOp.the-variants as op
-use Rattle.superblock.specs.declared.disk_op.SuperblockRead.{SuperblockRead}
-use Rattle.superblock.specs.declared.disk_op.SuperblockRead.the-variants as read
+use Rattle.layout.specs.declared.Geometry.{Geometry}
+use Rattle.superblock.specs.declared.DiskOp.the-variants as op
+use Rattle.superblock.specs.declared.SuperblockRead.{SuperblockRead}
+use Rattle.superblock.specs.declared.SuperblockRead.the-variants as read
 use Rattle.codec.specs.Format.{format}
 use Rattle.loading.specs.Laws.Which.{asked-which}
 use Rattle.source.specs.JournalDisk as D
@@ -25,7 +25,7 @@ use Rattle.requests.specs.Slots.{slotAt}
 use Rattle.requests.specs.Acknowledge.{readFrom}
 use Rattle.requests.specs.Laws.Pairs.{bitOf, whichOf, which-in, bit-which}
 use Rattle.requests.specs.Laws.Acknowledge.{read-whole, read-damaged}
-use Rattle.store.specs.declared.store.Store.{Store}
+use Rattle.store.specs.declared.Store.{Store}
 use Rattle.store.specs.Lent.{Lent, machineLent}
 use Rattle.store.specs.Steps.{contentOf}
 use Rattle.calls.specs.declared.calls.Step.the-variants as step

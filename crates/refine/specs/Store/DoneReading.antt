@@ -11,14 +11,14 @@ use lib.Seq.{take-all}
 use Rattle.laws.specs.Choice.{unless-done}
 use Rattle.laws.specs.Cut.{flat, lengths}
 use Rattle.laws.specs.Sets.{isKey, same-value}
-use Rattle.layout.specs.declared.geometry.Geometry.{Geometry}
-use Rattle.interval.specs.declared.interval.JournalInterval.{JournalInterval}
+use Rattle.layout.specs.declared.Geometry.{Geometry}
+use Rattle.interval.specs.declared.JournalInterval.{JournalInterval}
 use Rattle.interval.specs.Facts.{ContiguousJournalInterval}
-use Rattle.superblock.specs.declared.disk_op.JournalRead.the-variants as read
+use Rattle.superblock.specs.declared.JournalRead.the-variants as read
 use Rattle.journal.specs.Cells as cells
 use Rattle.codec.specs.Codec.{JournalRange}
 use Rattle.codec.specs.Format.{format}
-use Rattle.loading.specs.declared.other.Paged.{Paged}
+use Rattle.loading.specs.declared.Paged.{Paged}
 use Rattle.source.specs.JournalDisk as D
 use Rattle.source.specs.JournalCache.{PageInJournalRespStep, NoOpStep}
 use Rattle.source.specs.JournalSystem as Y
@@ -33,7 +33,7 @@ use Rattle.requests.specs.Acknowledge.{heldInterval, askAckReadJournal}
 use Rattle.disk.specs.Next.{ackReadJournalNext}
 use Rattle.disk.specs.Memory.{readOut}
 use Rattle.requests.specs.Laws.Acknowledge.{held-is}
-use Rattle.store.specs.declared.store.Store.{Store}
+use Rattle.store.specs.declared.Store.{Store}
 use Rattle.store.specs.Store.{store}
 use Rattle.store.specs.Lent.{Lent, machineLent, withPieces}
 use Rattle.store.specs.Steps.{readOf, askJournalRead, readPieces}

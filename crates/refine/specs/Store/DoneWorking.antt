@@ -6,14 +6,14 @@ use mathlib.Core.List.{List, []}
 use native.Mathlib.Omega.{arith}
 use lib.Dec.{eqb}
 use lib.ListN.{length}
-use Rattle.layout.specs.declared.geometry.Geometry.{Geometry}
-use Rattle.layout.specs.declared.location.Location.{Location}
-use Rattle.superblock.specs.declared.disk_op.DiskOp.the-variants as op
+use Rattle.layout.specs.declared.Geometry.{Geometry}
+use Rattle.layout.specs.declared.Location.{Location}
+use Rattle.superblock.specs.declared.DiskOp.the-variants as op
 use Rattle.range.specs.Memory.{view}
 use Rattle.memory.specs.Given.{memory, countOf}
 use Rattle.codec.specs.Codec.{JournalEntry}
 use Rattle.codec.specs.Format.{format}
-use Rattle.ready.specs.declared.ready.Ready.{Ready}
+use Rattle.ready.specs.declared.Ready.{Ready}
 use Rattle.ready.specs.State.{commitSlot}
 use Rattle.source.specs.JournalDisk as D
 use Rattle.source.specs.JournalCache as M
@@ -25,7 +25,7 @@ use Rattle.source.specs.Within.{Within}
 use Rattle.history.specs.Ledger as ledger
 use Rattle.history.specs.Statement.{Tied}
 use Rattle.machine.specs.Working.{writeBackJournalRespOp, writeBackJournalRespMachine, askAdvanceLogStep, advanceLogOp, advanceLogMachine, askAdvanceLocationStep, advanceLocationOp, advanceLocationMachine, askFreezeStep, freezeMachine, askReceiveFrozenLocStep, receiveFrozenLocMachine, askReplayStep, replayMachine}
-use Rattle.store.specs.declared.store.Store.{Store}
+use Rattle.store.specs.declared.Store.{Store}
 use Rattle.store.specs.Lent.{Lent, machineLent}
 use Rattle.calls.specs.declared.calls.Step.the-variants as step
 use Rattle.calls.specs.Given.{Given}

@@ -4,13 +4,13 @@ use mathlib.Core.Path.{_≡_, refl, sym, _∙_, ap, subst}
 use mathlib.Core.List.{[]}
 use mathlib.Core.Option.{Option}
 use Rattle.laws.specs.Choice.{andThen, andThen-both}
-use Rattle.layout.specs.declared.geometry.Geometry.{Geometry}
-use Rattle.interval.specs.declared.interval.JournalInterval.{JournalInterval}
-use Rattle.superblock.specs.declared.disk_op.MaybeId.{MaybeId}
+use Rattle.layout.specs.declared.Geometry.{Geometry}
+use Rattle.interval.specs.declared.JournalInterval.{JournalInterval}
+use Rattle.superblock.specs.declared.MaybeId.{MaybeId}
 use Rattle.range.specs.Form.{encode}
 use Rattle.codec.specs.Codec.{JournalRange}
 use Rattle.codec.specs.Format.{format}
-use Rattle.ready.specs.declared.entries.Bodies.{Bodies}
+use Rattle.ready.specs.declared.Bodies.{Bodies}
 use Rattle.source.specs.JournalDisk as D
 use Rattle.source.specs.JournalCache.{WriteBackJournalReqStep}
 use Rattle.source.specs.JournalSystem as Y
@@ -24,7 +24,7 @@ use Rattle.machine.specs.Questions.{bodiesOf}
 use Rattle.machine.specs.Working.{askWriteBackJournalReqStep}
 use Rattle.requests.specs.Receive.{askRecvWriteJournal}
 use Rattle.disk.specs.Laws.Memory.{new-blocks-rows}
-use Rattle.store.specs.declared.store.Store.{Store}
+use Rattle.store.specs.declared.Store.{Store}
 use Rattle.store.specs.Lent.{Lent, machineLent}
 use Rattle.store.specs.Steps.{askBoth, both, writeOp, askWriteJournal, writtenInterval}
 use Rattle.calls.specs.declared.calls.Step.the-variants as step

@@ -10,13 +10,13 @@ use borrow.Author.Tests.{eq-eqb, ne-eqb, eqb-true}
 use lib.Dec.{eqb}
 use Rattle.laws.specs.Choice.{split-eq, ruin, true-false, false-true}
 use Rattle.laws.specs.Sets.{Map, Ids}
-use Rattle.superblock.specs.declared.superblock.Superblock.{Superblock}
+use Rattle.superblock.specs.declared.Superblock.{Superblock}
 use Rattle.tables.specs.IdTable.{idSet}
-use Rattle.ready.specs.declared.commit.Commit.{Commit}
-use Rattle.ready.specs.declared.commit.Commit.the-variants as commit
-use Rattle.ready.specs.declared.frozen.MaybeLocation.{MaybeLocation}
-use Rattle.ready.specs.declared.frozen.MaybeLocation.the-variants.{NoLocation, Received}
-use Rattle.ready.specs.declared.ready.Ready.{Ready}
+use Rattle.ready.specs.declared.Commit.{Commit}
+use Rattle.ready.specs.declared.Commit.the-variants as commit
+use Rattle.ready.specs.declared.MaybeLocation.{MaybeLocation}
+use Rattle.ready.specs.declared.MaybeLocation.the-variants.{NoLocation, Received}
+use Rattle.ready.specs.declared.Ready.{Ready}
 use Rattle.source.specs.JournalCache as M
 use Rattle.source.specs.JournalCache.{ReadyVariables, SyncReqStatus}
 use Rattle.refine.specs.Machine.ReadyView.{ReadyLent, locationOf, slotOf, writeOf, statusOf, newOf, frozenOf, memoryOf, replayOf, readyOf}

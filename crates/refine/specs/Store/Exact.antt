@@ -10,8 +10,8 @@ use lib.Dec.{leb}
 use lib.ListN.{length}
 use borrow.Author.Tests.{leb-true, lt-leb}
 use Rattle.laws.specs.Choice.{also, also-left, also-right}
-use Rattle.layout.specs.declared.geometry.Geometry.{Geometry}
-use Rattle.superblock.specs.declared.disk_op.MaybeId.the-variants.{Id, NoId}
+use Rattle.layout.specs.declared.Geometry.{Geometry}
+use Rattle.superblock.specs.declared.MaybeId.the-variants.{Id, NoId}
 use Rattle.range.specs.Memory.{view, total, length-view}
 use Rattle.codec.specs.Codec.{JournalEntry}
 use Rattle.codec.specs.Format.{format}
@@ -29,9 +29,9 @@ use Rattle.history.specs.Ledger.{Call}
 use Rattle.history.specs.Statement.{Tied, tied-add, tied-replay}
 use Rattle.history.specs.Calls.Called.{called-once, nonsense-refused}
 use Rattle.requests.specs.Laws.Pairs.{whichOf}
-use Rattle.store.specs.declared.store.Store.{Store}
-use Rattle.store.specs.declared.store.StoreAnswer.{StoreAnswer}
-use Rattle.store.specs.declared.store.StoreAnswer.the-variants as answer
+use Rattle.store.specs.declared.Store.{Store}
+use Rattle.store.specs.declared.StoreAnswer.{StoreAnswer}
+use Rattle.store.specs.declared.StoreAnswer.the-variants as answer
 use Rattle.store.specs.Whole.{asked}
 use Rattle.store.specs.Lent.{Lent}
 use Rattle.calls.specs.declared.calls.Step.{Step}

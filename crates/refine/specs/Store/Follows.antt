@@ -7,9 +7,9 @@ use mathlib.Core.List.{List, [], _∷_, map}
 use mathlib.Core.Option.{none, some}
 use lib.ListN.{length}
 use Rattle.laws.specs.Cut.{flat, lengths}
-use Rattle.layout.specs.declared.geometry.Geometry.{Geometry}
+use Rattle.layout.specs.declared.Geometry.{Geometry}
 use Rattle.layout.specs.Geometry.{NumJournalBlocks}
-use Rattle.superblock.specs.declared.disk_op.MaybeId.the-variants.{Id, NoId}
+use Rattle.superblock.specs.declared.MaybeId.the-variants.{Id, NoId}
 use Rattle.range.specs.Memory.{view}
 use Rattle.codec.specs.Codec.{JournalEntry, Sized}
 use Rattle.codec.specs.Format.{format}
@@ -21,8 +21,8 @@ use Rattle.history.specs.Ledger.{Call}
 use Rattle.history.specs.Statement.{Takes, Ran}
 use Rattle.history.specs.Calls.Called.{called-once}
 use Rattle.requests.specs.Laws.Pairs.{whichOf}
-use Rattle.store.specs.declared.store.StoreAnswer.{StoreAnswer}
-use Rattle.store.specs.declared.store.StoreAnswer.the-variants as answer
+use Rattle.store.specs.declared.StoreAnswer.{StoreAnswer}
+use Rattle.store.specs.declared.StoreAnswer.the-variants as answer
 use Rattle.calls.specs.declared.calls.Step.{Step}
 use Rattle.calls.specs.declared.calls.Step.the-variants as step
 use Rattle.calls.specs.Given.{given}

@@ -3,11 +3,11 @@ use Prim.Native.Nat.{ℕ}
 use mathlib.Core.Path.{_≡_, refl, sym, _∙_, ap}
 use mathlib.Core.List.{List}
 use Rattle.laws.specs.Sets.{Map, keys, no-keys, no-ids, both, none-some}
-use Rattle.layout.specs.declared.geometry.Geometry.{Geometry}
-use Rattle.layout.specs.declared.location.Location.{Location}
-use Rattle.interval.specs.declared.interval.JournalInterval.{JournalInterval}
-use Rattle.superblock.specs.declared.superblock.Superblock.{Superblock}
-use Rattle.superblock.specs.declared.disk_op.MaybeSuperblock.the-variants as slot
+use Rattle.layout.specs.declared.Geometry.{Geometry}
+use Rattle.layout.specs.declared.Location.{Location}
+use Rattle.interval.specs.declared.JournalInterval.{JournalInterval}
+use Rattle.superblock.specs.declared.Superblock.{Superblock}
+use Rattle.superblock.specs.declared.MaybeSuperblock.the-variants as slot
 use Rattle.superblock.specs.Laws.{WFSuperblock}
 use Rattle.superblock.specs.Superblock.{SelectSuperblock}
 use Rattle.tables.specs.Laws.IdTables.{ids-empty}
@@ -19,9 +19,9 @@ use Rattle.source.specs.Limits.{limits}
 use Rattle.source.specs.Meets.{Joined, DiskMeets, SystemMeets, awaitedSuperblockReads, awaitedJournalReads, awaitedSuperblockWrites, awaitedJournalWrites}
 use Rattle.source.specs.Laws.Initial.{initial-meets}
 use Rattle.machine.specs.Machine.{initialMachine}
-use Rattle.requests.specs.declared.slots.Slots.{Slots}
+use Rattle.requests.specs.declared.Slots.{Slots}
 use Rattle.disk.specs.Disk.{idleDisk}
-use Rattle.store.specs.declared.store.Store.{Store}
+use Rattle.store.specs.declared.Store.{Store}
 use Rattle.store.specs.Store.{store}
 use Rattle.store.specs.Lent.{Lent, machineLent, askStore}
 use Rattle.refine.specs.Disk.View as disk

@@ -3,12 +3,12 @@
 use Prim.Native.Nat.{ℕ}
 use mathlib.Core.Path.{_≡_, refl, sym, _∙_, ap}
 use Rattle.laws.specs.Choice.{andThen-done, unless}
-use Rattle.layout.specs.declared.geometry.Geometry.{Geometry}
+use Rattle.layout.specs.declared.Geometry.{Geometry}
 use Rattle.journal.specs.Memory.{askJournal}
 use Rattle.crash.specs.Laws.Memory.{own-blocks, own-marks}
 use Rattle.crash.specs.Laws.Whole.{asked-twice}
 use Rattle.machine.specs.Questions.{bodiesOf}
-use Rattle.store.specs.declared.store.Store.{Store}
+use Rattle.store.specs.declared.Store.{Store}
 use Rattle.store.specs.Whole.{asked}
 use Rattle.store.specs.Lent.{Lent, askStore, withJournal}
 use Rattle.calls.specs.declared.calls.Step.the-variants as step

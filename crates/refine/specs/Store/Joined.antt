@@ -9,38 +9,38 @@ use native.Mathlib.Omega.{arith}
 use lib.Dec.{eqb}
 use Rattle.laws.specs.Choice.{also-left, also-right, also-both, false-true, ruin}
 use Rattle.laws.specs.Sets.{Map, no-keys, idsOf, Two, both, put, eachOf}
-use Rattle.layout.specs.declared.geometry.Geometry.{Geometry}
-use Rattle.interval.specs.declared.interval.JournalInterval.{JournalInterval}
+use Rattle.layout.specs.declared.Geometry.{Geometry}
+use Rattle.interval.specs.declared.JournalInterval.{JournalInterval}
 use Rattle.interval.specs.Answer.{maybeInterval}
-use Rattle.superblock.specs.declared.superblock.Superblock.{Superblock}
-use Rattle.superblock.specs.declared.disk_op.MaybeSuperblock.{MaybeSuperblock}
-use Rattle.superblock.specs.declared.disk_op.MaybeSuperblock.the-variants as slot
+use Rattle.superblock.specs.declared.Superblock.{Superblock}
+use Rattle.superblock.specs.declared.MaybeSuperblock.{MaybeSuperblock}
+use Rattle.superblock.specs.declared.MaybeSuperblock.the-variants as slot
 use Rattle.superblock.specs.Superblock.{JournalFrontIntervalOfSuperblock, JournalBackIntervalOfSuperblock}
 use Rattle.superblock.specs.Laws.{WFSuperblock, superblock-facts, facts-superblock}
 use Rattle.tables.specs.Rows.{Counted}
 use Rattle.tables.specs.IdTable.{idSet, addedId}
 use Rattle.tables.specs.Laws.IdTables.{ids-empty}
 use Rattle.tables.specs.Laws.IntervalTables.{same-facts, facts-same}
-use Rattle.loading.specs.declared.slots.SlotRead.{SlotRead}
-use Rattle.loading.specs.declared.slots.SlotRead.the-variants as slotRead
-use Rattle.loading.specs.declared.pieces.Piece.{Piece}
-use Rattle.loading.specs.declared.pieces.Piece.the-variants as piece
+use Rattle.loading.specs.declared.SlotRead.{SlotRead}
+use Rattle.loading.specs.declared.SlotRead.the-variants as slotRead
+use Rattle.loading.specs.declared.Piece.{Piece}
+use Rattle.loading.specs.declared.Piece.the-variants as piece
 use Rattle.loading.specs.Other.{frontOf}
-use Rattle.ready.specs.declared.commit.Commit.{Commit}
-use Rattle.ready.specs.declared.commit.Commit.the-variants as commit
+use Rattle.ready.specs.declared.Commit.{Commit}
+use Rattle.ready.specs.declared.Commit.the-variants as commit
 use Rattle.source.specs.JournalDisk.{ReqWriteSuperblockId}
 use Rattle.source.specs.JournalSystem.{WFDisk}
 use Rattle.source.specs.Meets.{oneId, bindRead, newWrite, awaitedSuperblockReads, awaitedJournalReads, awaitedSuperblockWrites, awaitedJournalWrites, Joined}
-use Rattle.machine.specs.declared.machine.Machine.{Machine}
+use Rattle.machine.specs.declared.Machine.{Machine}
 use Rattle.machine.specs.Lent.{Lent}
-use Rattle.requests.specs.declared.slots.SuperblockWrite.{SuperblockWrite}
-use Rattle.requests.specs.declared.slots.SuperblockWrite.the-variants as write
-use Rattle.requests.specs.declared.slots.SuperblockWrites.{SuperblockWrites}
-use Rattle.disk.specs.declared.disk.Disk.{Disk}
+use Rattle.requests.specs.declared.SuperblockWrite.{SuperblockWrite}
+use Rattle.requests.specs.declared.SuperblockWrite.the-variants as write
+use Rattle.requests.specs.declared.SuperblockWrites.{SuperblockWrites}
+use Rattle.disk.specs.declared.Disk.{Disk}
 use Rattle.requests.specs.Slots.{putWrite}
 use Rattle.requests.specs.Laws.Pairs.{readPair, writePair}
-use Rattle.joined.specs.declared.awaits.AwaitedRead.the-variants as read
-use Rattle.joined.specs.declared.awaits.Awaited.{Awaited}
+use Rattle.joined.specs.declared.AwaitedRead.the-variants as read
+use Rattle.joined.specs.declared.Awaited.{Awaited}
 use Rattle.joined.specs.Awaited.{slotIds, pieceAwaited, piecesAwaited, commitWrite, commitWrites, superblocksAwait, otherAwaits, readyAwaits, awaitedBy}
 use Rattle.joined.specs.Apart.{slotWf, slotsWf, rowsClear, selectedInterval, clearBy, writesClear}
 use Rattle.joined.specs.Joined.{joinedBy, joinedOk}

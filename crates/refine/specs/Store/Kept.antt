@@ -4,21 +4,21 @@ use Prim.Native.Nat.{ℕ}
 use mathlib.Core.Path.{_≡_, refl, sym, _∙_, ap, subst}
 use mathlib.Core.Logic.{⊎-elim}
 use Rattle.laws.specs.Choice.{andThen-left, andThen-right, unless-done, asked-either, ruin}
-use Rattle.layout.specs.declared.geometry.Geometry.{Geometry}
-use Rattle.superblock.specs.declared.disk_op.MaybeId.{MaybeId}
-use Rattle.superblock.specs.declared.disk_op.DiskOp.{DiskOp}
-use Rattle.ready.specs.declared.entries.Bodies.{Bodies}
+use Rattle.layout.specs.declared.Geometry.{Geometry}
+use Rattle.superblock.specs.declared.MaybeId.{MaybeId}
+use Rattle.superblock.specs.declared.DiskOp.{DiskOp}
+use Rattle.ready.specs.declared.Bodies.{Bodies}
 use Rattle.memory.specs.Given.{memory, countOf}
-use Rattle.machine.specs.declared.machine.Machine.{Machine}
+use Rattle.machine.specs.declared.Machine.{Machine}
 use Rattle.machine.specs.Lent as machine
 use Rattle.machine.specs.Questions.{bodiesOf}
 use Rattle.machine.specs.Working.{writeBackJournalReqMachine, advanceMachine, movedBytes, movedLens, appendedBytes, appendedLens, givenOf, askAdvanceStep, askAdvanceLogStep, askAdvanceLocationStep}
 use Rattle.machine.specs.Loading.{askLoaded, finishLoadingOtherPhaseMachine, loadedReplayBytes, loadedReplayLens}
 use Rattle.disk.specs.Operation.{operationNext}
 use Rattle.disk.specs.Laws.Questions.{state-asked}
-use Rattle.store.specs.declared.store.Store.{Store}
-use Rattle.store.specs.declared.store.StoreAnswer.the-variants as answer
-use Rattle.store.specs.declared.store.StoreStepped.{StoreStepped}
+use Rattle.store.specs.declared.Store.{Store}
+use Rattle.store.specs.declared.StoreAnswer.the-variants as answer
+use Rattle.store.specs.declared.StoreStepped.{StoreStepped}
 use Rattle.store.specs.Whole.{asked}
 use Rattle.store.specs.Store as S
 use Rattle.store.specs.Store.{store}

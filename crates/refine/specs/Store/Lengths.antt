@@ -11,10 +11,10 @@ use Rattle.laws.specs.Fold.{every, every-append, every-take, every-drop, every-
 use Rattle.laws.specs.Cut.{flat, lengths, length-flat, length-lengths}
 use Rattle.laws.specs.Splice.{splice, length-splice, length-clipped}
 use Rattle.laws.specs.Around.{spliceAround, length-spliceAround}
-use Rattle.layout.specs.declared.geometry.Geometry.{Geometry}
-use Rattle.interval.specs.declared.interval.JournalInterval.{JournalInterval}
+use Rattle.layout.specs.declared.Geometry.{Geometry}
+use Rattle.interval.specs.declared.JournalInterval.{JournalInterval}
 use Rattle.interval.specs.Facts.{interval-facts}
-use Rattle.superblock.specs.declared.disk_op.MaybeId.{MaybeId}
+use Rattle.superblock.specs.declared.MaybeId.{MaybeId}
 use Rattle.journal.specs.Memory.{isMark, updateMarks, copyBlocks, askJournal}
 use Rattle.journal.specs.Asked.{Marks, journal-marks}
 use Rattle.range.specs.Form.{BlockSize, LengthWidth, MostEntryLength, used, blocksFor, allEntries}
@@ -25,12 +25,12 @@ use Rattle.unpacker.specs.Unpack.{Room, unpack-asked}
 use Rattle.writer.specs.Ring.{putOk, putRange, puts-facts, puts-start, put-no, put-yes}
 use Rattle.crash.specs.Picture.{crashedBlocks, crashedMarks}
 use Rattle.crash.specs.Laws.Memory.{length-crashed-blocks, length-crashed-marks, crashed-marks-each}
-use Rattle.ready.specs.declared.entries.Bodies.{Bodies}
+use Rattle.ready.specs.declared.Bodies.{Bodies}
 use Rattle.machine.specs.Questions.{bodiesOf}
 use Rattle.machine.specs.Working.{leftOf, sentOf, sentStart, askAdvanceStep, givenOf}
 use Rattle.machine.specs.Loading.{loadedBytes, askLoaded}
 use Rattle.requests.specs.Laws.Receive.{recv-write-journal-asked}
-use Rattle.store.specs.declared.store.Store.{Store}
+use Rattle.store.specs.declared.Store.{Store}
 use Rattle.store.specs.Lent.{Lent, machineLent, askStore, withPieces, withJournal}
 use Rattle.store.specs.Steps.{askBoth, askWriteJournal, askJournalRead, writtenInterval, readPieces, writtenLent, finishedLent, addedLent}
 use Rattle.calls.specs.declared.calls.Step.{Step}

@@ -6,11 +6,11 @@ use mathlib.Core.Logic.{⊎-elim}
 use mathlib.Core.Option.{Option, none, some}
 use Rattle.laws.specs.Choice.{andThen-right}
 use Rattle.laws.specs.Sets.{at}
-use Rattle.layout.specs.declared.geometry.Geometry.{Geometry}
-use Rattle.superblock.specs.declared.superblock.Superblock.{Superblock}
-use Rattle.superblock.specs.declared.disk_op.DiskOp.{DiskOp}
-use Rattle.superblock.specs.declared.disk_op.DiskOp.the-variants as op
-use Rattle.superblock.specs.declared.disk_op.MaybeSuperblock.{MaybeSuperblock}
+use Rattle.layout.specs.declared.Geometry.{Geometry}
+use Rattle.superblock.specs.declared.Superblock.{Superblock}
+use Rattle.superblock.specs.declared.DiskOp.{DiskOp}
+use Rattle.superblock.specs.declared.DiskOp.the-variants as op
+use Rattle.superblock.specs.declared.MaybeSuperblock.{MaybeSuperblock}
 use Rattle.codec.specs.Format.{format}
 use Rattle.loading.specs.Laws.Which.{which-asked}
 use Rattle.loading.specs.Laws.Other.{page-in-journal-req-asked}
@@ -22,15 +22,15 @@ use Rattle.source.specs.Departures.{Step⁺, Source, AskAgainStep, MachineStep}
 use Rattle.history.specs.Ledger as ledger
 use Rattle.history.specs.Ledger.{Call}
 use Rattle.history.specs.Statement.{Tied, Takes}
-use Rattle.machine.specs.declared.machine.Machine.{Machine}
+use Rattle.machine.specs.declared.Machine.{Machine}
 use Rattle.machine.specs.Loading.{askPageInJournalReqStep, pageInJournalReqOp, pageInJournalReqMachine, askPageInSuperblockReqStep, pageInSuperblockReqOp, pageInSuperblockReqMachine, askPageInSuperblockRespStep, pageInSuperblockRespOp, pageInSuperblockRespMachine, askFinishLoadingSuperblockPhaseStep, finishLoadingSuperblockPhaseMachine, askAskAgainStep, askAgainMachine}
 use Rattle.requests.specs.Slots.{slotAt}
 use Rattle.requests.specs.Acknowledge.{readFrom}
 use Rattle.requests.specs.Laws.Pairs.{bitOf}
 use Rattle.requests.specs.Laws.Receive.{recv-read-superblock-asked}
 use Rattle.requests.specs.Laws.Acknowledge.{read-whole, read-damaged}
-use Rattle.store.specs.declared.store.Store.{Store}
-use Rattle.store.specs.declared.store.StoreAnswer.the-variants as answer
+use Rattle.store.specs.declared.Store.{Store}
+use Rattle.store.specs.declared.StoreAnswer.the-variants as answer
 use Rattle.store.specs.Lent.{Lent, machineLent, askStore}
 use Rattle.store.specs.Steps.{readJournal, readSuperblock, contentOf, superblockRead, finishSuperblocks, askAgain}
 use Rattle.calls.specs.declared.calls.Step.the-variants as step

@@ -11,10 +11,10 @@ use Rattle.laws.specs.Choice.{andThen-left, andThen-right, also-left, also-righ
 use Rattle.laws.specs.Fold.{sum, every, same-is}
 use Rattle.laws.specs.Splice.{clipped, clipped-fits, splice}
 use Rattle.laws.specs.Sets.{Distinct}
-use Rattle.layout.specs.declared.geometry.Geometry.{Geometry}
-use Rattle.superblock.specs.declared.superblock.Superblock.{Superblock}
-use Rattle.superblock.specs.declared.disk_op.SuperblockRead.{SuperblockRead}
-use Rattle.superblock.specs.declared.disk_op.JournalRead.{JournalRead}
+use Rattle.layout.specs.declared.Geometry.{Geometry}
+use Rattle.superblock.specs.declared.Superblock.{Superblock}
+use Rattle.superblock.specs.declared.SuperblockRead.{SuperblockRead}
+use Rattle.superblock.specs.declared.JournalRead.{JournalRead}
 use Rattle.superblock.specs.Superblock.{SelectSuperblockIndex, IncrementSuperblockCounter}
 use Rattle.superblock.specs.Laws.{selects-first, selects-second}
 use Rattle.tables.specs.SyncTable.{validStates}
@@ -26,17 +26,17 @@ use Rattle.memory.specs.Given.{memory, countOf, askGiven}
 use Rattle.memory.specs.Limits.{storeLimits}
 use Rattle.memory.specs.Replay.{isNext}
 use Rattle.unpacker.specs.Unpack.{unpack-asked}
-use Rattle.loading.specs.declared.other.LoadingOther.{LoadingOther}
-use Rattle.loading.specs.declared.pieces.Piece.the-variants as piece
+use Rattle.loading.specs.declared.LoadingOther.{LoadingOther}
+use Rattle.loading.specs.declared.Piece.the-variants as piece
 use Rattle.loading.specs.Which.{isSecond}
 use Rattle.loading.specs.Pieces.{pieceReads, withoutRead, pieceRead}
 use Rattle.loading.specs.Other.{toPieces, selectedOther, pageInJournalReqNext, pageInJournalRespNext}
 use Rattle.loading.specs.Laws.Superblocks.{finish-loading-superblock-phase-asked, finished-selects}
-use Rattle.ready.specs.declared.entries.Bodies.{Bodies}
+use Rattle.ready.specs.declared.Bodies.{Bodies}
 use Rattle.ready.specs.State.{count, replayLeft}
 use Rattle.ready.specs.EntrySteps.{advanceNext, replayNext, askAdvance}
 use Rattle.ready.specs.Laws.Asked.{MayAdvance, advance-asked}
-use Rattle.machine.specs.declared.machine.Machine.{Machine}
+use Rattle.machine.specs.declared.Machine.{Machine}
 use Rattle.machine.specs.Machine.{initialMachine}
 use Rattle.machine.specs.Lent.{Lent}
 use Rattle.machine.specs.Questions.{bodiesOf}

@@ -5,27 +5,27 @@ use mathlib.Core.Path.{_≡_, refl, sym, subst}
 use native.Mathlib.Omega.{arith}
 use lib.ListN.{take}
 use Rattle.laws.specs.Choice.{also, andThen-left, andThen-right}
-use Rattle.layout.specs.declared.geometry.Geometry.{Geometry}
-use Rattle.layout.specs.declared.location.Location.{Location}
-use Rattle.superblock.specs.declared.disk_op.MaybeId.{MaybeId}
-use Rattle.tables.specs.declared.sync_table.SyncTable.{SyncTable}
+use Rattle.layout.specs.declared.Geometry.{Geometry}
+use Rattle.layout.specs.declared.Location.{Location}
+use Rattle.superblock.specs.declared.MaybeId.{MaybeId}
+use Rattle.tables.specs.declared.SyncTable.{SyncTable}
 use Rattle.tables.specs.Rows.{placeOf, Counted}
 use Rattle.tables.specs.SyncTable.{SizedSyncs, okState, validStates, addedSync, removedSync, movedSyncs}
 use Rattle.tables.specs.Laws.Counts.{add-asked}
 use Rattle.tables.specs.Laws.SyncTables.{syncs-added-ok, syncs-added-valid, syncs-removed-ok, syncs-removed-valid, syncs-moved-ok, syncs-moved-valid}
 use Rattle.memory.specs.Given.{memory}
-use Rattle.ready.specs.declared.entries.Bodies.{Bodies}
-use Rattle.ready.specs.declared.ready.Ready.{Ready}
-use Rattle.ready.specs.declared.commit.Commit.{Commit}
-use Rattle.ready.specs.declared.commit.Commit.the-variants as commit
+use Rattle.ready.specs.declared.Bodies.{Bodies}
+use Rattle.ready.specs.declared.Ready.{Ready}
+use Rattle.ready.specs.declared.Commit.{Commit}
+use Rattle.ready.specs.declared.Commit.the-variants as commit
 use Rattle.ready.specs.State.{noneFrozen, awaitsId, count, left, withCommit}
 use Rattle.ready.specs.JournalSteps.{writeBackJournalRespNext}
 use Rattle.ready.specs.CommitSteps.{advancedLog, advancedLocation, writeBackSuperblockRespNext}
 use Rattle.ready.specs.FreezeSteps.{freezeNext, receiveFrozenLocNext}
 use Rattle.ready.specs.Laws.Asked.{write-asked}
-use Rattle.machine.specs.declared.machine.Kind.{Kind}
-use Rattle.machine.specs.declared.machine.Kind.the-variants as kind
-use Rattle.machine.specs.declared.machine.Machine.{Machine}
+use Rattle.machine.specs.declared.Kind.{Kind}
+use Rattle.machine.specs.declared.Kind.the-variants as kind
+use Rattle.machine.specs.declared.Machine.{Machine}
 use Rattle.machine.specs.Machine.{byKind, askReady}
 use Rattle.machine.specs.Lent.{Lent}
 use Rattle.machine.specs.Sync.{askPushSyncReq, pushSyncReqMachine, popSyncReqMachine}

@@ -6,13 +6,13 @@ use mathlib.Core.Path.{_≡_, refl, subst}
 use mathlib.Core.List.{List, []}
 use native.Mathlib.Omega.{arith}
 use Rattle.laws.specs.Choice.{ruin}
-use Rattle.layout.specs.declared.geometry.Geometry.{Geometry}
-use Rattle.superblock.specs.declared.disk_op.DiskOp.{DiskOp}
-use Rattle.superblock.specs.declared.disk_op.DiskOp.the-variants as op
-use Rattle.superblock.specs.declared.disk_op.SuperblockRead.{SuperblockRead}
-use Rattle.superblock.specs.declared.disk_op.SuperblockRead.the-variants as read
+use Rattle.layout.specs.declared.Geometry.{Geometry}
+use Rattle.superblock.specs.declared.DiskOp.{DiskOp}
+use Rattle.superblock.specs.declared.DiskOp.the-variants as op
+use Rattle.superblock.specs.declared.SuperblockRead.{SuperblockRead}
+use Rattle.superblock.specs.declared.SuperblockRead.the-variants as read
 use Rattle.source.specs.JournalDisk as D
-use Rattle.disk.specs.declared.disk.Disk.{Disk}
+use Rattle.disk.specs.declared.Disk.{Disk}
 use Rattle.requests.specs.Acknowledge.{askReadSuperblockAs}
 use Rattle.disk.specs.Next.{ackReadSuperblockNext}
 use Rattle.disk.specs.Operation.{askDecision, operationNext}

@@ -3,23 +3,23 @@ use Prim.Native.Nat.{ℕ}
 use mathlib.Core.Bool.{Bool, true, false, cond}
 use lib.Dec.{eqb}
 use lib.ListN.{take}
-use Rattle.layout.specs.declared.geometry.Geometry.{Geometry}
-use Rattle.layout.specs.declared.location.Location.{Location}
-use Rattle.interval.specs.declared.interval.JournalInterval.{JournalInterval}
-use Rattle.interval.specs.declared.answer.MaybeInterval.{MaybeInterval}
-use Rattle.interval.specs.declared.answer.MaybeInterval.the-variants as part
+use Rattle.layout.specs.declared.Geometry.{Geometry}
+use Rattle.layout.specs.declared.Location.{Location}
+use Rattle.interval.specs.declared.JournalInterval.{JournalInterval}
+use Rattle.interval.specs.declared.MaybeInterval.{MaybeInterval}
+use Rattle.interval.specs.declared.MaybeInterval.the-variants as part
 use Rattle.interval.specs.Answer.{maybeInterval}
 use Rattle.interval.specs.Interval.{interval, JournalFrontInterval, JournalBackInterval}
-use Rattle.superblock.specs.declared.superblock.Superblock.{Superblock}
-use Rattle.superblock.specs.declared.disk_op.MaybeId.{MaybeId}
-use Rattle.superblock.specs.declared.disk_op.MaybeId.the-variants as maybe
-use Rattle.superblock.specs.declared.disk_op.SuperblockRead.{SuperblockRead}
-use Rattle.superblock.specs.declared.disk_op.JournalRead.{JournalRead}
-use Rattle.superblock.specs.declared.disk_op.DiskOp.{DiskOp}
-use Rattle.superblock.specs.declared.disk_op.DiskOp.the-variants as op
-use Rattle.tables.specs.declared.id_table.IdTable.{IdTable}
-use Rattle.tables.specs.declared.sync_table.SyncTable.{SyncTable}
-use Rattle.tables.specs.declared.interval_table.IntervalTable.{IntervalTable}
+use Rattle.superblock.specs.declared.Superblock.{Superblock}
+use Rattle.superblock.specs.declared.MaybeId.{MaybeId}
+use Rattle.superblock.specs.declared.MaybeId.the-variants as maybe
+use Rattle.superblock.specs.declared.SuperblockRead.{SuperblockRead}
+use Rattle.superblock.specs.declared.JournalRead.{JournalRead}
+use Rattle.superblock.specs.declared.DiskOp.{DiskOp}
+use Rattle.superblock.specs.declared.DiskOp.the-variants as op
+use Rattle.tables.specs.declared.IdTable.{IdTable}
+use Rattle.tables.specs.declared.SyncTable.{SyncTable}
+use Rattle.tables.specs.declared.IntervalTable.{IntervalTable}
 use Rattle.tables.specs.Rows.{placeOf}
 use Rattle.tables.specs.IdTable.{SizedIds, addedId, joinedId, removedId}
 use Rattle.tables.specs.IntervalTable.{SizedIntervals}
@@ -27,27 +27,27 @@ use Rattle.tables.specs.SyncTable.{SizedSyncs}
 use Rattle.tables.specs.Laws.IdTables.{sized-added-ids, sized-joined-ids, sized-removed-ids, sized-no-ids}
 use Rattle.tables.specs.Laws.IntervalTables.{sized-no-intervals, sized-added-intervals, sized-removed-intervals}
 use Rattle.tables.specs.Laws.SyncTables.{sized-added-syncs, sized-removed-syncs, sized-moved-syncs}
-use Rattle.memory.specs.declared.count.Count.{Count}
-use Rattle.memory.specs.declared.count.Counted.{Counted}
-use Rattle.ready.specs.declared.commit.Commit.{Commit}
-use Rattle.ready.specs.declared.commit.Commit.the-variants as commit
-use Rattle.ready.specs.declared.ready.Ready.{Ready}
-use Rattle.ready.specs.declared.entries.Bodies.{Bodies}
+use Rattle.memory.specs.declared.Count.{Count}
+use Rattle.memory.specs.declared.Counted.{Counted}
+use Rattle.ready.specs.declared.Commit.{Commit}
+use Rattle.ready.specs.declared.Commit.the-variants as commit
+use Rattle.ready.specs.declared.Ready.{Ready}
+use Rattle.ready.specs.declared.Bodies.{Bodies}
 use Rattle.ready.specs.State.{noneFrozen, awaitsId, loaded}
 use Rattle.ready.specs.JournalSteps.{joinedIds, writeBackJournalReqNext, writeBackJournalRespNext}
 use Rattle.ready.specs.CommitSteps.{logCommitted, locationCommitted, answered, writeBackSuperblockRespNext}
 use Rattle.ready.specs.FreezeSteps.{freezeNext, receiveFrozenLocNext}
 use Rattle.ready.specs.EntrySteps.{advanceNext, replayNext}
-use Rattle.machine.specs.declared.machine.Kind.{Kind}
-use Rattle.machine.specs.declared.machine.Kind.the-variants as kind
-use Rattle.machine.specs.declared.machine.Machine.{Machine}
+use Rattle.machine.specs.declared.Kind.{Kind}
+use Rattle.machine.specs.declared.Kind.the-variants as kind
+use Rattle.machine.specs.declared.Machine.{Machine}
 use Rattle.machine.specs.Machine.{byKind}
 use Rattle.machine.specs.Sync.{pushSyncReqMachine, popSyncReqMachine}
 use Rattle.machine.specs.Working.{sentSync, writtenMachine, writeBackJournalRespMachine, commitRequested, advanceLogMachine, advanceLocationMachine, answeredSync, commitAnswered, writeBackSuperblockRespMachine, freezeMachine, receiveFrozenLocMachine, advanceMachine, replayMachine}
 use Rattle.machine.specs.Loading.{pageInJournalReqMachine, pageInJournalRespMachine, pageInSuperblockReqMachine, pageInSuperblockRespMachine, finishLoadingSuperblockPhaseMachine, loadedMachine, askAgainMachine}
-use Rattle.requests.specs.declared.slots.Slots.{Slots}
-use Rattle.requests.specs.declared.slots.SuperblockReads.{SuperblockReads}
-use Rattle.disk.specs.declared.disk.Disk.{Disk}
+use Rattle.requests.specs.declared.Slots.{Slots}
+use Rattle.requests.specs.declared.SuperblockReads.{SuperblockReads}
+use Rattle.disk.specs.declared.Disk.{Disk}
 use Rattle.disk.specs.Disk.{idleDisk}
 use Rattle.requests.specs.Slots.{readsAt, putReads}
 use Rattle.requests.specs.Receive.{readReceived, addedPart, writeReceived}

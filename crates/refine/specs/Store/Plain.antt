@@ -8,8 +8,8 @@ use lib.Dec.{leb}
 use lib.ListN.{length}
 use borrow.Author.Tests.{le-leb}
 use Rattle.laws.specs.Choice.{andThen, andThen-left, andThen-right, also-both}
-use Rattle.layout.specs.declared.geometry.Geometry.{Geometry}
-use Rattle.superblock.specs.declared.disk_op.DiskOp.{DiskOp}
+use Rattle.layout.specs.declared.Geometry.{Geometry}
+use Rattle.superblock.specs.declared.DiskOp.{DiskOp}
 use Rattle.range.specs.Memory.{total}
 use Rattle.codec.specs.Format.{format}
 use Rattle.source.specs.Limits.{limits}
@@ -17,11 +17,11 @@ use Rattle.source.specs.Departures.{Step⁺, NextStep⁺, MachineStep}
 use Rattle.history.specs.Ledger as ledger
 use Rattle.history.specs.Ledger.{Call}
 use Rattle.history.specs.Statement.{Tied, Takes}
-use Rattle.machine.specs.declared.machine.Machine.{Machine}
+use Rattle.machine.specs.declared.Machine.{Machine}
 use Rattle.disk.specs.Operation.{askDecision, operationNext}
-use Rattle.store.specs.declared.store.Store.{Store}
-use Rattle.store.specs.declared.store.StoreAnswer.the-variants as answer
-use Rattle.store.specs.declared.store.StoreStepped.{StoreStepped}
+use Rattle.store.specs.declared.Store.{Store}
+use Rattle.store.specs.declared.StoreAnswer.the-variants as answer
+use Rattle.store.specs.declared.StoreStepped.{StoreStepped}
 use Rattle.store.specs.Store.{store}
 use Rattle.store.specs.Lent.{Lent, machineLent, askStore}
 use Rattle.store.specs.Steps.{askBoth, both}

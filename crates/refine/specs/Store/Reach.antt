@@ -8,9 +8,9 @@ use native.Mathlib.Omega.{arith}
 use lib.Dec.{leb}
 use lib.ListN.{length, take}
 use Rattle.laws.specs.Choice.{also, andThen-left, andThen-right}
-use Rattle.layout.specs.declared.geometry.Geometry.{Geometry}
-use Rattle.layout.specs.declared.location.Location.{Location}
-use Rattle.superblock.specs.declared.disk_op.DiskOp.{DiskOp}
+use Rattle.layout.specs.declared.Geometry.{Geometry}
+use Rattle.layout.specs.declared.Location.{Location}
+use Rattle.superblock.specs.declared.DiskOp.{DiskOp}
 use Rattle.journal.specs.Cells.{length-cells}
 use Rattle.journal.specs.Blocks.{cell-size}
 use Rattle.range.specs.Memory.{view, total, length-view, lengths-view}
@@ -28,10 +28,10 @@ use Rattle.history.specs.Whole.First.{firstParity}
 use Rattle.history.specs.Reach.Reachable.{Reached, reached-init, reached-step}
 use Rattle.machine.specs.Questions.{bodiesOf}
 use Rattle.machine.specs.Working.{askAdvanceStep, askReplayGiven, askReplayStep}
-use Rattle.requests.specs.declared.slots.Slots.{Slots}
-use Rattle.store.specs.declared.store.Store.{Store}
-use Rattle.store.specs.declared.store.StoreAnswer.the-variants as answer
-use Rattle.store.specs.declared.store.StoreStepped.{StoreStepped}
+use Rattle.requests.specs.declared.Slots.{Slots}
+use Rattle.store.specs.declared.Store.{Store}
+use Rattle.store.specs.declared.StoreAnswer.the-variants as answer
+use Rattle.store.specs.declared.StoreStepped.{StoreStepped}
 use Rattle.store.specs.Lent.{Lent, machineLent, askStore}
 use Rattle.store.specs.Steps.{askBoth, both}
 use Rattle.store.specs.Laws.Answers.{next-asked}

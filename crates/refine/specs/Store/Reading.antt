@@ -14,11 +14,11 @@ use Rattle.laws.specs.Cut.{cut-even}
 use Rattle.laws.specs.Around.{around-straight}
 use Rattle.laws.specs.Part.{length-part}
 use Rattle.laws.specs.Splice.{clipped}
-use Rattle.layout.specs.declared.geometry.Geometry.{Geometry}
-use Rattle.interval.specs.declared.interval.JournalInterval.{JournalInterval}
+use Rattle.layout.specs.declared.Geometry.{Geometry}
+use Rattle.interval.specs.declared.JournalInterval.{JournalInterval}
 use Rattle.interval.specs.Facts.{ContiguousJournalInterval}
-use Rattle.superblock.specs.declared.disk_op.DiskOp.{DiskOp}
-use Rattle.superblock.specs.declared.disk_op.JournalRead.the-variants as read
+use Rattle.superblock.specs.declared.DiskOp.{DiskOp}
+use Rattle.superblock.specs.declared.JournalRead.the-variants as read
 use Rattle.journal.specs.Memory.{sliceBytes, copyBlocks}
 use Rattle.journal.specs.Asked.{Blocks}
 use Rattle.journal.specs.Laws.{copied-slice}
@@ -32,7 +32,7 @@ use Rattle.source.specs.JournalCache.{PageInJournalRespStep, NoOpStep}
 use Rattle.source.specs.Limits.{limits}
 use Rattle.source.specs.Departures.{Source, DamagedJournalStep, PageInJournalResp⁺, DamagedJournal, NoOp⁺}
 use Rattle.history.specs.Statement.{Takes, tied-paged, tied-damaged, unawaited-paged, unawaited-damaged}
-use Rattle.loading.specs.declared.other.Paged.{Paged}
+use Rattle.loading.specs.declared.Paged.{Paged}
 use Rattle.machine.specs.Questions.{askMachine}
 use Rattle.machine.specs.Loading.{pagedIn, pageInJournalRespOp, pageInJournalRespMachine, pagedPieces}
 use Rattle.requests.specs.Acknowledge.{heldInterval}
@@ -40,8 +40,8 @@ use Rattle.disk.specs.Next.{ackReadJournalNext}
 use Rattle.disk.specs.Memory.{readOut}
 use Rattle.requests.specs.Laws.Acknowledge.{held-is, ack-read-journal-waiting}
 use Rattle.disk.specs.Laws.Memory.{out-whole}
-use Rattle.store.specs.declared.store.Store.{Store}
-use Rattle.store.specs.declared.store.StoreAnswer.the-variants as answer
+use Rattle.store.specs.declared.Store.{Store}
+use Rattle.store.specs.declared.StoreAnswer.the-variants as answer
 use Rattle.store.specs.Store.{store}
 use Rattle.store.specs.Lent.{Lent, machineLent, askStore, withPieces}
 use Rattle.store.specs.Steps.{readOf, askJournalRead, journalRead, copiedPieces, readPieces}

@@ -12,23 +12,23 @@ use Rattle.laws.specs.Fold.{sum}
 use Rattle.laws.specs.Part.{length-part}
 use Rattle.laws.specs.Cut.{flat, lengths, length-flat, length-lengths}
 use Rattle.laws.specs.Splice.{splice, length-splice}
-use Rattle.layout.specs.declared.location.Location.{Location}
-use Rattle.superblock.specs.declared.superblock.Superblock.{Superblock}
-use Rattle.superblock.specs.declared.disk_op.MaybeId.{MaybeId}
-use Rattle.superblock.specs.declared.disk_op.MaybeId.the-variants as maybe
-use Rattle.tables.specs.declared.id_table.IdTable.{IdTable}
+use Rattle.layout.specs.declared.Location.{Location}
+use Rattle.superblock.specs.declared.Superblock.{Superblock}
+use Rattle.superblock.specs.declared.MaybeId.{MaybeId}
+use Rattle.superblock.specs.declared.MaybeId.the-variants as maybe
+use Rattle.tables.specs.declared.IdTable.{IdTable}
 use Rattle.tables.specs.Rows.{placeOf, Counted}
 use Rattle.tables.specs.IdTable.{SizedIds, noIds, joinedId, removedId}
 use Rattle.tables.specs.Laws.Counts.{counted-none}
 use Rattle.tables.specs.Laws.IdTables.{ids-joined-ok, ids-removed-ok}
 use Rattle.range.specs.Form.{Entry}
 use Rattle.range.specs.Memory.{total, total-write, total-split}
-use Rattle.memory.specs.declared.count.Count.{Count}
-use Rattle.ready.specs.declared.commit.Commit.{Commit}
-use Rattle.ready.specs.declared.commit.Commit.the-variants as commit
-use Rattle.ready.specs.declared.entries.Bodies.{Bodies}
-use Rattle.ready.specs.declared.entries.Entries.{Entries}
-use Rattle.ready.specs.declared.ready.Ready.{Ready}
+use Rattle.memory.specs.declared.Count.{Count}
+use Rattle.ready.specs.declared.Commit.{Commit}
+use Rattle.ready.specs.declared.Commit.the-variants as commit
+use Rattle.ready.specs.declared.Bodies.{Bodies}
+use Rattle.ready.specs.declared.Entries.{Entries}
+use Rattle.ready.specs.declared.Ready.{Ready}
 use Rattle.ready.specs.State.{count, counts, commitSlot, sent, left, loaded}
 use Rattle.ready.specs.JournalSteps.{askIds, joinedIds, writtenEntries, writeBackJournalReqNext, writeBackJournalRespNext}
 use Rattle.ready.specs.CommitSteps.{logCommitted, locationCommitted, answered, writeBackSuperblockRespNext}

@@ -4,16 +4,16 @@ use Prim.Native.Nat.{ℕ}
 use mathlib.Core.Bool.{Bool, true, false}
 use mathlib.Core.Path.{_≡_, sym, subst, _∙_}
 use mathlib.Core.List.{List, [], _∷_, map}
-use Rattle.layout.specs.declared.geometry.Geometry.{Geometry}
-use Rattle.layout.specs.declared.location.Location.{Location}
+use Rattle.layout.specs.declared.Geometry.{Geometry}
+use Rattle.layout.specs.declared.Location.{Location}
 use Rattle.codec.specs.Format.{format}
 use Rattle.source.specs.JournalSystem as Y
 use Rattle.source.specs.JournalSystem.{SuperblockOfDisk}
 use Rattle.history.specs.Ledger.{Ledger, begin, tell, books}
 use Rattle.history.specs.Statement.{Ran}
 use Rattle.history.specs.Whole.First.{firstParity}
-use Rattle.requests.specs.declared.slots.Slots.{Slots}
-use Rattle.store.specs.declared.store.Store.{Store}
+use Rattle.requests.specs.declared.Slots.{Slots}
+use Rattle.store.specs.declared.Store.{Store}
 use Rattle.store.specs.Lent.{Lent, machineLent, askStore}
 use Rattle.calls.specs.Step.{stepped}
 use Rattle.refine.specs.Disk.View as disk

@@ -7,7 +7,7 @@ use mathlib.Core.List.{List}
 use lib.Dec.{leb, eqb}
 use lib.ListN.{length}
 use Rattle.laws.specs.Choice.{also, andThen-left, andThen-right, andThen-both, ask-yes, ask-holds}
-use Rattle.layout.specs.declared.geometry.Geometry.{Geometry}
+use Rattle.layout.specs.declared.Geometry.{Geometry}
 use Rattle.range.specs.Memory.{view, total}
 use Rattle.source.specs.JournalSystem as Y
 use Rattle.source.specs.Limits.{limits}
@@ -15,7 +15,7 @@ use Rattle.source.specs.Meets.{Joined, SystemMeets}
 use Rattle.history.specs.Ledger as ledger
 use Rattle.history.specs.Ledger.{Call}
 use Rattle.disk.specs.Questions.{askDisk}
-use Rattle.store.specs.declared.store.Store.{Store}
+use Rattle.store.specs.declared.Store.{Store}
 use Rattle.store.specs.Lent.{Lent, machineLent, askStore, askRest}
 use Rattle.calls.specs.declared.calls.Step.{Step}
 use Rattle.calls.specs.declared.calls.Step.the-variants as step

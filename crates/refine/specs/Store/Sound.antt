@@ -6,12 +6,12 @@ use mathlib.Core.Path.{_≡_, refl, sym, _∙_, ap, subst}
 use mathlib.Core.List.{List}
 use lib.Dec.{eqb}
 use Rattle.laws.specs.Choice.{andThen, andThen-left, andThen-right, andThen-both, unless, unless-kept, unless-done, asked-yes, asked-no, split-eq, ruin}
-use Rattle.layout.specs.declared.geometry.Geometry.{Geometry}
-use Rattle.superblock.specs.declared.disk_op.DiskOp.{DiskOp}
-use Rattle.superblock.specs.declared.disk_op.DiskOp.the-variants as op
+use Rattle.layout.specs.declared.Geometry.{Geometry}
+use Rattle.superblock.specs.declared.DiskOp.{DiskOp}
+use Rattle.superblock.specs.declared.DiskOp.the-variants as op
 use Rattle.journal.specs.Memory.{askJournal}
-use Rattle.ready.specs.declared.entries.Bodies.{Bodies}
-use Rattle.machine.specs.declared.machine.Machine.{Machine}
+use Rattle.ready.specs.declared.Bodies.{Bodies}
+use Rattle.machine.specs.declared.Machine.{Machine}
 use Rattle.machine.specs.Questions.{bodiesOf}
 use Rattle.machine.specs.Loading.{askLoaded, finishLoadingOtherPhaseMachine, loadedReplayBytes, loadedReplayLens}
 use Rattle.machine.specs.Working.{movedBytes, movedLens, givenOf, askAdvanceStep, advanceMachine}
@@ -19,10 +19,10 @@ use Rattle.codec.specs.Format.{format}
 use Rattle.source.specs.Limits.{limits}
 use Rattle.source.specs.JournalSystem as Y
 use Rattle.history.specs.Statement.{Takes}
-use Rattle.store.specs.declared.store.Store.{Store}
-use Rattle.store.specs.declared.store.StoreAnswer.{StoreAnswer}
-use Rattle.store.specs.declared.store.StoreAnswer.the-variants as answer
-use Rattle.store.specs.declared.store.StoreStepped.{StoreStepped}
+use Rattle.store.specs.declared.Store.{Store}
+use Rattle.store.specs.declared.StoreAnswer.{StoreAnswer}
+use Rattle.store.specs.declared.StoreAnswer.the-variants as answer
+use Rattle.store.specs.declared.StoreStepped.{StoreStepped}
 use Rattle.store.specs.Whole.{asked}
 use Rattle.store.specs.Store.{store, refused, answered}
 use Rattle.store.specs.Lent.{Lent, askStore, withPending, withPieces, withReplay, withJournal}

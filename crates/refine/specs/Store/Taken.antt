@@ -3,8 +3,8 @@
 use Prim.Native.Nat.{ℕ}
 use mathlib.Core.Path.{_≡_, sym, subst}
 use Rattle.laws.specs.Choice.{andThen-left, andThen-right}
-use Rattle.layout.specs.declared.geometry.Geometry.{Geometry}
-use Rattle.superblock.specs.declared.disk_op.DiskOp.{DiskOp}
+use Rattle.layout.specs.declared.Geometry.{Geometry}
+use Rattle.superblock.specs.declared.DiskOp.{DiskOp}
 use Rattle.codec.specs.Format.{format}
 use Rattle.source.specs.JournalDisk as D
 use Rattle.source.specs.JournalSystem as Y
@@ -13,8 +13,8 @@ use Rattle.source.specs.Departures.{Step⁺, NextStep⁺, MachineStep}
 use Rattle.history.specs.Ledger.{Call}
 use Rattle.history.specs.Statement.{Takes, Tied}
 use Rattle.machine.specs.Questions.{askMachine}
-use Rattle.store.specs.declared.store.Store.{Store}
-use Rattle.store.specs.declared.store.StoreAnswer.the-variants as answer
+use Rattle.store.specs.declared.Store.{Store}
+use Rattle.store.specs.declared.StoreAnswer.the-variants as answer
 use Rattle.store.specs.Store.{answered}
 use Rattle.store.specs.Lent.{Lent, machineLent, askStore}
 use Rattle.store.specs.Laws.Answers.{next-asked, asked-next}

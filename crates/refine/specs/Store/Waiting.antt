@@ -7,9 +7,9 @@ use mathlib.Core.Logic.{_⊎_, inl, inr, ⊎-elim}
 use borrow.Author.Tests.{eq-eqb}
 use Rattle.laws.specs.Choice.{split-eq, false-true}
 use Rattle.laws.specs.Sets.{Ids, no-ids, Map, no-keys, isKey, Two, both, at, put, at-both, join-there, bind-there, same-value, none-some}
-use Rattle.layout.specs.declared.geometry.Geometry.{Geometry}
-use Rattle.interval.specs.declared.interval.JournalInterval.{JournalInterval}
-use Rattle.superblock.specs.declared.superblock.Superblock.{Superblock}
+use Rattle.layout.specs.declared.Geometry.{Geometry}
+use Rattle.interval.specs.declared.JournalInterval.{JournalInterval}
+use Rattle.superblock.specs.declared.Superblock.{Superblock}
 use Rattle.codec.specs.Codec.{JournalRange}
 use Rattle.source.specs.JournalDisk as D
 use Rattle.source.specs.JournalDisk.{ReqId, ReqWriteSuperblockId, RespReadSuperblockOp, RespReadJournalOp, RespWriteSuperblockOp, RespWriteJournalOp}
@@ -17,9 +17,9 @@ use Rattle.source.specs.JournalCache as M
 use Rattle.source.specs.JournalSystem as Y
 use Rattle.source.specs.Meets.{oneId, bindRead, newWrite, awaitedSuperblockReads, awaitedJournalReads, awaitedSuperblockWrites, awaitedJournalWrites, Joined}
 use Rattle.source.specs.Departures.{Awaited}
-use Rattle.requests.specs.declared.slots.SuperblockWrite.{SuperblockWrite}
-use Rattle.requests.specs.declared.slots.SuperblockWrite.the-variants as write
-use Rattle.requests.specs.declared.slots.SuperblockWrites.{SuperblockWrites}
+use Rattle.requests.specs.declared.SuperblockWrite.{SuperblockWrite}
+use Rattle.requests.specs.declared.SuperblockWrite.the-variants as write
+use Rattle.requests.specs.declared.SuperblockWrites.{SuperblockWrites}
 use Rattle.requests.specs.Slots.{isWrite, slotOf}
 use Rattle.requests.specs.Laws.Pairs.{whichOf}
 use Rattle.refine.specs.Disk.View.{writeIn}

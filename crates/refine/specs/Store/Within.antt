@@ -6,7 +6,7 @@ use mathlib.Core.List.{List}
 use native.Mathlib.Omega.{arith}
 use lib.ListN.{length}
 use Rattle.laws.specs.Sets.{AtMost, keys}
-use Rattle.layout.specs.declared.geometry.Geometry.{Geometry}
+use Rattle.layout.specs.declared.Geometry.{Geometry}
 use Rattle.layout.specs.Geometry.{NumJournalBlocks, ValidGeometry}
 use Rattle.tables.specs.SyncTable.{SizedSyncs}
 use Rattle.tables.specs.Laws.Counts.{count-few}
@@ -20,7 +20,7 @@ use Rattle.source.specs.Within.{EventArguments, Within}
 use Rattle.history.specs.Ledger as ledger
 use Rattle.history.specs.Ledger.{Call}
 use Rattle.history.specs.Statement.{Tied, tied-write, tied-written, unawaited-written, tied-log, tied-location, tied-committed, unawaited-committed, tied-page, tied-paged, tied-damaged, unawaited-paged, unawaited-damaged, tied-read, tied-superblock, tied-corrupt, unawaited-superblock, unawaited-corrupt, tied-finish-superblocks, tied-finish-other, tied-freeze, tied-receive, tied-add, tied-replay, tied-push, tied-pop, tied-no-op, tied-again, tied-land, tied-crash, Takes}
-use Rattle.machine.specs.declared.machine.Machine.{Machine}
+use Rattle.machine.specs.declared.Machine.{Machine}
 use Rattle.machine.specs.Lent.{Lent}
 use Rattle.refine.specs.Machine.ReadyForm.{pending-few-is, pending-small-is}
 use Rattle.refine.specs.Machine.MachineView.{readyLent, stateOf, machineOf, syncsOf, SizedMachine, MachineLent, SyncForm, MachineForm}

@@ -4,10 +4,10 @@ use mathlib.Core.Path.{_≡_, sym, subst}
 use mathlib.Core.List.{List}
 use mathlib.Core.Logic.{⊎-elim}
 use Rattle.laws.specs.Choice.{andThen-left, andThen-right}
-use Rattle.layout.specs.declared.geometry.Geometry.{Geometry}
-use Rattle.layout.specs.declared.location.Location.{Location}
-use Rattle.superblock.specs.declared.disk_op.DiskOp.{DiskOp}
-use Rattle.superblock.specs.declared.disk_op.DiskOp.the-variants as op
+use Rattle.layout.specs.declared.Geometry.{Geometry}
+use Rattle.layout.specs.declared.Location.{Location}
+use Rattle.superblock.specs.declared.DiskOp.{DiskOp}
+use Rattle.superblock.specs.declared.DiskOp.the-variants as op
 use Rattle.range.specs.Memory.{view}
 use Rattle.memory.specs.Given.{memory, countOf, askGiven}
 use Rattle.codec.specs.Format.{format}
@@ -18,11 +18,11 @@ use Rattle.source.specs.Departures.{Source, MachineStep}
 use Rattle.history.specs.Ledger as ledger
 use Rattle.history.specs.Ledger.{Call}
 use Rattle.history.specs.Statement.{Tied, Takes}
-use Rattle.machine.specs.declared.machine.Machine.{Machine}
+use Rattle.machine.specs.declared.Machine.{Machine}
 use Rattle.machine.specs.Working.{writeBackJournalRespOp, writeBackJournalRespMachine, askAdvanceLogStep, advanceLogOp, advanceLogMachine, askAdvanceLocationStep, advanceLocationOp, advanceLocationMachine, askWriteBackSuperblockRespStep, writeBackSuperblockRespOp, writeBackSuperblockRespMachine, askFreezeStep, freezeMachine, askReceiveFrozenLocStep, receiveFrozenLocMachine, askReplayGiven, askReplayStep, replayMachine}
 use Rattle.requests.specs.Slots.{slotOf}
-use Rattle.store.specs.declared.store.Store.{Store}
-use Rattle.store.specs.declared.store.StoreAnswer.the-variants as answer
+use Rattle.store.specs.declared.Store.{Store}
+use Rattle.store.specs.declared.StoreAnswer.the-variants as answer
 use Rattle.store.specs.Lent.{Lent, machineLent, askStore}
 use Rattle.store.specs.Steps.{journalWritten, commitLog, commitLocation, superblockWritten, freeze, receive, replay}
 use Rattle.calls.specs.declared.calls.Step.the-variants as step

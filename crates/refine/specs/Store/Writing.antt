@@ -8,12 +8,12 @@ use native.Mathlib.Omega.{arith}
 use lib.ListN.{length}
 use Rattle.laws.specs.Choice.{andThen, andThen-left, andThen-right, unless-done}
 use Rattle.laws.specs.Around.{clippedAround-fits}
-use Rattle.layout.specs.declared.geometry.Geometry.{Geometry}
-use Rattle.interval.specs.declared.interval.JournalInterval.{JournalInterval}
+use Rattle.layout.specs.declared.Geometry.{Geometry}
+use Rattle.interval.specs.declared.JournalInterval.{JournalInterval}
 use Rattle.interval.specs.Facts.{interval-facts}
-use Rattle.superblock.specs.declared.disk_op.MaybeId.{MaybeId}
-use Rattle.superblock.specs.declared.disk_op.MaybeId.the-variants as maybe
-use Rattle.superblock.specs.declared.disk_op.DiskOp.{DiskOp}
+use Rattle.superblock.specs.declared.MaybeId.{MaybeId}
+use Rattle.superblock.specs.declared.MaybeId.the-variants as maybe
+use Rattle.superblock.specs.declared.DiskOp.{DiskOp}
 use Rattle.journal.specs.Memory.{updateBytes}
 use Rattle.journal.specs.Cells.{blocksIn}
 use Rattle.range.specs.Form.{LengthWidth, blocks, encode}
@@ -27,17 +27,17 @@ use Rattle.source.specs.JournalCache.{WriteBackJournalReqStep}
 use Rattle.source.specs.Limits.{limits}
 use Rattle.source.specs.Departures.{Source}
 use Rattle.history.specs.Statement.{Takes, tied-write}
-use Rattle.ready.specs.declared.entries.Bodies.{Bodies}
+use Rattle.ready.specs.declared.Bodies.{Bodies}
 use Rattle.ready.specs.Laws.Asked.{MayWrite, write-asked}
-use Rattle.machine.specs.declared.machine.Kind.the-variants as kind
+use Rattle.machine.specs.declared.Kind.the-variants as kind
 use Rattle.machine.specs.Questions.{bodiesOf}
 use Rattle.machine.specs.Working.{sentOf, sentRange, movedBytes, movedLens, askWriteBackJournalReqStep, writeBackJournalReqMachine}
 use Rattle.requests.specs.Receive.{askRecvWriteJournal}
 use Rattle.disk.specs.Next.{recvWriteJournalNext}
 use Rattle.requests.specs.Laws.Receive.{recv-write-journal-asked}
 use Rattle.disk.specs.Laws.Memory.{asks-new-blocks}
-use Rattle.store.specs.declared.store.Store.{Store}
-use Rattle.store.specs.declared.store.StoreAnswer.the-variants as answer
+use Rattle.store.specs.declared.Store.{Store}
+use Rattle.store.specs.declared.StoreAnswer.the-variants as answer
 use Rattle.store.specs.Store.{store}
 use Rattle.store.specs.Lent.{Lent, machineLent, askStore, withPending, withJournal}
 use Rattle.store.specs.Steps.{askBoth, both, writeOp, askWriteJournal, writeJournal, writtenInterval, writtenBlocks, writtenMarks, writtenLent}

@@ -9,23 +9,23 @@ use lib.ListN.{take}
 use borrow.Author.Tests.{eqb-true, eq-eqb}
 use Rattle.laws.specs.Choice.{andThen, andThen-left, andThen-right, andThen-both, ask, ask-yes, ask-holds, false-true, split-bool}
 use Rattle.laws.specs.Sets.{idsOf}
-use Rattle.interval.specs.declared.interval.JournalInterval.{JournalInterval}
-use Rattle.superblock.specs.declared.superblock.Superblock.{Superblock}
-use Rattle.superblock.specs.declared.disk_op.MaybeSuperblock.{MaybeSuperblock}
-use Rattle.superblock.specs.declared.disk_op.MaybeSuperblock.the-variants as slot
-use Rattle.superblock.specs.declared.disk_op.SuperblockRead.{SuperblockRead}
-use Rattle.superblock.specs.declared.disk_op.SuperblockRead.the-variants as read
+use Rattle.interval.specs.declared.JournalInterval.{JournalInterval}
+use Rattle.superblock.specs.declared.Superblock.{Superblock}
+use Rattle.superblock.specs.declared.MaybeSuperblock.{MaybeSuperblock}
+use Rattle.superblock.specs.declared.MaybeSuperblock.the-variants as slot
+use Rattle.superblock.specs.declared.SuperblockRead.{SuperblockRead}
+use Rattle.superblock.specs.declared.SuperblockRead.the-variants as read
 use Rattle.superblock.specs.Laws.{same-superblock, superblock-same}
 use Rattle.journal.specs.Memory.{fullMarks, askReadable}
 use Rattle.journal.specs.Asked.{readable-asked, asked-readable}
-use Rattle.tables.specs.declared.interval_table.IntervalTable.{IntervalTable}
+use Rattle.tables.specs.declared.IntervalTable.{IntervalTable}
 use Rattle.tables.specs.IdTable.{idSet, removedId}
 use Rattle.tables.specs.IntervalTable.{intervalMap, heldOf, removedInterval}
-use Rattle.requests.specs.declared.slots.Slots.{Slots}
-use Rattle.requests.specs.declared.slots.SuperblockReads.{SuperblockReads}
-use Rattle.requests.specs.declared.slots.SuperblockWrite.{SuperblockWrite}
-use Rattle.requests.specs.declared.slots.SuperblockWrite.the-variants as write
-use Rattle.requests.specs.declared.slots.SuperblockWrites.{SuperblockWrites}
+use Rattle.requests.specs.declared.Slots.{Slots}
+use Rattle.requests.specs.declared.SuperblockReads.{SuperblockReads}
+use Rattle.requests.specs.declared.SuperblockWrite.{SuperblockWrite}
+use Rattle.requests.specs.declared.SuperblockWrite.the-variants as write
+use Rattle.requests.specs.declared.SuperblockWrites.{SuperblockWrites}
 use Rattle.requests.specs.Slots.{askWhich, slotAt, readsAt, writeAt, isWrite, putReads}
 use Rattle.requests.specs.Acknowledge.{askWaiting, mayRead, askAckReadSuperblock, readFrom, holdsRead, askReadSuperblockAs, orEmpty, heldInterval, askAckReadJournal, landed, askAckWriteSuperblock, askAckWriteJournal, readAcked, intervalLeft}
 use Rattle.requests.specs.Laws.Pairs.{which-asked, asked-which}

@@ -4,16 +4,16 @@ use mathlib.Core.Bool.{true}
 use mathlib.Core.Path.{_≡_, refl}
 use native.Mathlib.Omega.{arith}
 use Rattle.laws.specs.Choice.{andThen-left, andThen-right, andThen-both, ask, ask-yes, ask-holds, false-true}
-use Rattle.superblock.specs.declared.superblock.Superblock.{Superblock}
-use Rattle.superblock.specs.declared.disk_op.MaybeSuperblock.{MaybeSuperblock}
-use Rattle.superblock.specs.declared.disk_op.MaybeSuperblock.the-variants as slot
-use Rattle.requests.specs.declared.slots.SuperblockWrite.{SuperblockWrite}
-use Rattle.requests.specs.declared.slots.SuperblockWrite.the-variants as write
-use Rattle.requests.specs.declared.slots.SuperblockWrites.{SuperblockWrites}
+use Rattle.superblock.specs.declared.Superblock.{Superblock}
+use Rattle.superblock.specs.declared.MaybeSuperblock.{MaybeSuperblock}
+use Rattle.superblock.specs.declared.MaybeSuperblock.the-variants as slot
+use Rattle.requests.specs.declared.SuperblockWrite.{SuperblockWrite}
+use Rattle.requests.specs.declared.SuperblockWrite.the-variants as write
+use Rattle.requests.specs.declared.SuperblockWrites.{SuperblockWrites}
 use Rattle.requests.specs.Slots.{askWhich, writeAt, slotAt, putSlot}
 use Rattle.requests.specs.Landing.{inFlight, askLand, landingOn, slotsLanded}
 use Rattle.requests.specs.Laws.Pairs.{which-asked, asked-which}
-use Rattle.requests.specs.declared.slots.Slots.{Slots}
+use Rattle.requests.specs.declared.Slots.{Slots}
 
 pub record LandAsked (w : SuperblockWrites) (which : ℕ) : Type 0 where
   pub which-in : which ≤ 1

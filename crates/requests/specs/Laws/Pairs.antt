@@ -7,12 +7,12 @@ use lib.Dec.{leb, eqb}
 use borrow.Author.Tests.{leb-true, le-leb}
 use Rattle.laws.specs.Choice.{ask-yes, ask-holds}
 use Rattle.laws.specs.Sets.{Two, at, put}
-use Rattle.superblock.specs.declared.disk_op.MaybeSuperblock.{MaybeSuperblock}
-use Rattle.tables.specs.declared.id_table.IdTable.{IdTable}
-use Rattle.requests.specs.declared.slots.Slots.{Slots}
-use Rattle.requests.specs.declared.slots.SuperblockReads.{SuperblockReads}
-use Rattle.requests.specs.declared.slots.SuperblockWrite.{SuperblockWrite}
-use Rattle.requests.specs.declared.slots.SuperblockWrites.{SuperblockWrites}
+use Rattle.superblock.specs.declared.MaybeSuperblock.{MaybeSuperblock}
+use Rattle.tables.specs.declared.IdTable.{IdTable}
+use Rattle.requests.specs.declared.Slots.{Slots}
+use Rattle.requests.specs.declared.SuperblockReads.{SuperblockReads}
+use Rattle.requests.specs.declared.SuperblockWrite.{SuperblockWrite}
+use Rattle.requests.specs.declared.SuperblockWrites.{SuperblockWrites}
 use Rattle.requests.specs.Slots.{askWhich, chosen, slotAt, putSlot, readsAt, putReads, writeAt, putWrite}
 
 abbrev pub bitOf : ℕ → Bool

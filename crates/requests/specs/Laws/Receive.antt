@@ -8,22 +8,22 @@ use lib.ListN.{take}
 use borrow.Author.Tests.{eqb-false, ne-eqb}
 use Rattle.laws.specs.Choice.{also, also-left, also-right, also-both, either, either-neither, neither-left, neither-right, andThen, andThen-left, andThen-right, andThen-both, andThen-done, andThen-first, ask, ask-yes, ask-holds, ask-fails, not-true, false-true}
 use Rattle.laws.specs.Sets.{idsOf}
-use Rattle.layout.specs.declared.geometry.Geometry.{Geometry}
-use Rattle.interval.specs.declared.interval.JournalInterval.{JournalInterval}
+use Rattle.layout.specs.declared.Geometry.{Geometry}
+use Rattle.interval.specs.declared.JournalInterval.{JournalInterval}
 use Rattle.interval.specs.Answer.{maybeInterval}
 use Rattle.interval.specs.Interval.{interval, validJournalInterval, contiguousJournalInterval}
 use Rattle.interval.specs.Laws.{parts-wrapped}
-use Rattle.superblock.specs.declared.superblock.Superblock.{Superblock}
-use Rattle.superblock.specs.declared.disk_op.MaybeId.{MaybeId}
-use Rattle.superblock.specs.declared.disk_op.MaybeId.the-variants as maybe
-use Rattle.tables.specs.declared.interval_table.IntervalTable.{IntervalTable}
+use Rattle.superblock.specs.declared.Superblock.{Superblock}
+use Rattle.superblock.specs.declared.MaybeId.{MaybeId}
+use Rattle.superblock.specs.declared.MaybeId.the-variants as maybe
+use Rattle.tables.specs.declared.IntervalTable.{IntervalTable}
 use Rattle.tables.specs.Rows.{hasRoom, askAdd}
 use Rattle.tables.specs.IdTable.{idSet, addedId}
 use Rattle.tables.specs.IntervalTable.{addedInterval}
 use Rattle.tables.specs.Laws.Counts.{no-room, add-full}
-use Rattle.requests.specs.declared.slots.SuperblockReads.{SuperblockReads}
-use Rattle.requests.specs.declared.slots.SuperblockWrite.the-variants as write
-use Rattle.requests.specs.declared.slots.SuperblockWrites.{SuperblockWrites}
+use Rattle.requests.specs.declared.SuperblockReads.{SuperblockReads}
+use Rattle.requests.specs.declared.SuperblockWrite.the-variants as write
+use Rattle.requests.specs.declared.SuperblockWrites.{SuperblockWrites}
 use Rattle.requests.specs.Limits.{MostSuperblockReads, MostJournalReads, MostJournalWrites}
 use Rattle.requests.specs.Slots.{askWhich, readsAt, isWrite, putReads}
 use Rattle.requests.specs.Receive.{askRecvReadSuperblock, askRecvReadJournal, askRecvWriteSuperblock, isNew, askNewIds, rowsFor, secondFits, askRows, askRecvWriteJournal, addedPart, writeReceived, readReceived}

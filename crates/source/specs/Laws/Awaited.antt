@@ -7,9 +7,9 @@ use mathlib.Core.Logic.{_⊎_, inl, inr, ⊎-elim}
 use lib.Dec.{eqb}
 use borrow.Author.Tests.{eq-eqb, eqb-true, eqb-false, ne-eqb}
 use Rattle.laws.specs.Choice.{ruin, false-true, split-eq}
-use Rattle.layout.specs.declared.geometry.Geometry.{Geometry}
-use Rattle.interval.specs.declared.interval.JournalInterval.{JournalInterval}
-use Rattle.superblock.specs.declared.superblock.Superblock.{Superblock}
+use Rattle.layout.specs.declared.Geometry.{Geometry}
+use Rattle.interval.specs.declared.JournalInterval.{JournalInterval}
+use Rattle.superblock.specs.declared.Superblock.{Superblock}
 use Rattle.laws.specs.Sets.{Ids, no-ids, join, leave, Map, no-keys, bind, unbind, Two, at, put, none-some, same-value, at-both, bind-here, bind-there}
 use Rattle.laws.specs.Maps.{join-leave, bind-unbind, bind-comm, unbind-bind-there, unbind-bind}
 use Rattle.codec.specs.Codec.{JournalRange}

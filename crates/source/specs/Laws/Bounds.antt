@@ -9,7 +9,7 @@ use lib.ListN.{length}
 use Rattle.laws.specs.Fold.{sum}
 use Rattle.laws.specs.Cut.{lengths}
 use Rattle.laws.specs.Sets.{Map, keys, AtMost, Listed, few-listed, listed-at-most, at}
-use Rattle.layout.specs.declared.geometry.Geometry.{Geometry}
+use Rattle.layout.specs.declared.Geometry.{Geometry}
 use Rattle.codec.specs.Codec.{JournalEntry, EntryFits, EntriesFit}
 use Rattle.source.specs.JournalDisk as D
 use Rattle.source.specs.JournalCache as M

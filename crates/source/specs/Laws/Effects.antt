@@ -4,11 +4,11 @@ use mathlib.Core.Bool.{not}
 use mathlib.Core.Path.{_≡_, sym, _∙_, ap, subst}
 use mathlib.Core.Option.{Option, none, some}
 use mathlib.Core.List.{[]}
-use Rattle.layout.specs.declared.geometry.Geometry.{Geometry}
+use Rattle.layout.specs.declared.Geometry.{Geometry}
 use Rattle.layout.specs.Laws.{pos-add-wrap}
 use Rattle.interval.specs.Interval.{interval, NextStartPoint}
 use Rattle.interval.specs.Laws.{next-start-wrap}
-use Rattle.superblock.specs.declared.superblock.Superblock.{Superblock}
+use Rattle.superblock.specs.declared.Superblock.{Superblock}
 use Rattle.laws.specs.Sets.{Two, both, put, put-put}
 use Rattle.codec.specs.Codec.{JournalRange, JournalRangeParses, Codec}
 use Rattle.source.specs.JournalDisk as D

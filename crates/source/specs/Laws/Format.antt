@@ -8,7 +8,7 @@ use native.Mathlib.Omega.{arith}
 use lib.ListN.{length}
 use Rattle.laws.specs.Fold.{sum}
 use Rattle.laws.specs.Cut.{lengths}
-use Rattle.layout.specs.declared.geometry.Geometry.{Geometry}
+use Rattle.layout.specs.declared.Geometry.{Geometry}
 use Rattle.codec.specs.Codec.{JournalEntry, EntriesFit, Codec}
 use Rattle.codec.specs.Format.{MostEntries, MostEntryLength, format, fit-lengths, facts-good, format-fit}
 use Rattle.source.specs.JournalCache as M

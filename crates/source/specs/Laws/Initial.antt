@@ -2,9 +2,9 @@
 use mathlib.Core.Path.{refl, sym, _∙_, ap, subst}
 use Rattle.laws.specs.Choice.{ruin}
 use Rattle.laws.specs.Sets.{Ids, no-ids, Map, keys, AtMost, none-few, none-some, Two, at, at-both}
-use Rattle.layout.specs.declared.geometry.Geometry.{Geometry}
-use Rattle.layout.specs.declared.location.Location.{Location}
-use Rattle.interval.specs.declared.interval.JournalInterval.{JournalInterval}
+use Rattle.layout.specs.declared.Geometry.{Geometry}
+use Rattle.layout.specs.declared.Location.{Location}
+use Rattle.interval.specs.declared.JournalInterval.{JournalInterval}
 use Rattle.codec.specs.Codec.{Sized}
 use Rattle.source.specs.JournalDisk as D
 use Rattle.source.specs.JournalCache as M

@@ -3,8 +3,8 @@
 use mathlib.Core.Path.{_≡_, refl, sym, _∙_, ap, subst}
 use mathlib.Core.Option.{none, some}
 use lib.ListN.{length}
-use Rattle.layout.specs.declared.geometry.Geometry.{Geometry}
-use Rattle.interval.specs.declared.interval.JournalInterval.{JournalInterval}
+use Rattle.layout.specs.declared.Geometry.{Geometry}
+use Rattle.interval.specs.declared.JournalInterval.{JournalInterval}
 use Rattle.laws.specs.Sets.{Map, same-value}
 use Rattle.codec.specs.Codec.{JournalRange, SizedBlocks, Codec}
 use Rattle.codec.specs.Sizes.{sized-range}

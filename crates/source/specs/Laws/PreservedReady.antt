@@ -7,11 +7,11 @@ use mathlib.Core.Logic.{inl, inr, ⊎-elim}
 use native.Mathlib.Omega.{arith}
 use lib.ListN.{length}
 use Rattle.laws.specs.Choice.{ruin, true-false, false-true}
-use Rattle.layout.specs.declared.geometry.Geometry.{Geometry}
-use Rattle.layout.specs.declared.location.Location.{Location}
+use Rattle.layout.specs.declared.Geometry.{Geometry}
+use Rattle.layout.specs.declared.Location.{Location}
 use Rattle.layout.specs.Laws.{ValidIndirectionTableLocation, pos-add-wrap}
 use Rattle.laws.specs.Ring.{wrap-in}
-use Rattle.superblock.specs.declared.superblock.Superblock.{Superblock}
+use Rattle.superblock.specs.declared.Superblock.{Superblock}
 use Rattle.laws.specs.Sets.{Ids, Map, none-some, same-value}
 use Rattle.codec.specs.Codec.{JournalEntry, JournalRange, Codec}
 use Rattle.source.specs.JournalDisk.{ReqId, DiskOp}

@@ -10,9 +10,9 @@ use lib.ListN.{length, List·getD-eq-default}
 use Rattle.laws.specs.Choice.{split-le}
 use Rattle.laws.specs.Sets.{Map, bind, none-some}
 use Rattle.laws.specs.Maps.{Values, values-bind, values-unbind, no-keys-some}
-use Rattle.layout.specs.declared.geometry.Geometry.{Geometry}
+use Rattle.layout.specs.declared.Geometry.{Geometry}
 use Rattle.layout.specs.Geometry.{NumJournalBlocks}
-use Rattle.interval.specs.declared.interval.JournalInterval.{JournalInterval}
+use Rattle.interval.specs.declared.JournalInterval.{JournalInterval}
 use Rattle.interval.specs.Facts.{ContiguousJournalInterval}
 use Rattle.interval.specs.Journal.{JournalBlock}
 use Rattle.codec.specs.Codec.{BlockSize, Sized, SizedBlocks}

@@ -9,8 +9,8 @@ use native.Mathlib.Omega.{arith}
 use lib.ListN.{length, length-append}
 use Rattle.laws.specs.Cut.{flat, flat-append}
 use Rattle.laws.specs.Sets.{Two, at, put, none-some, same-value, at-both}
-use Rattle.layout.specs.declared.geometry.Geometry.{Geometry}
-use Rattle.interval.specs.declared.interval.JournalInterval.{JournalInterval}
+use Rattle.layout.specs.declared.Geometry.{Geometry}
+use Rattle.interval.specs.declared.JournalInterval.{JournalInterval}
 use Rattle.interval.specs.Interval.{interval}
 use Rattle.interval.specs.Laws.{lenOf, parts-fit}
 use Rattle.codec.specs.Codec.{BlockSize, JournalRange, SizedBlocks, Codec}

@@ -6,7 +6,7 @@ use native.Mathlib.Omega.{arith}
 use lib.ListN.{length-append}
 use Rattle.laws.specs.Fold.{sum, sum-append, each-append, each-right}
 use Rattle.laws.specs.Cut.{lengths, lengths-append}
-use Rattle.layout.specs.declared.geometry.Geometry.{Geometry}
+use Rattle.layout.specs.declared.Geometry.{Geometry}
 use Rattle.codec.specs.Codec.{JournalEntry, EntryFits, EntriesFit, Codec}
 use Rattle.source.specs.JournalDisk.{DiskOp}
 use Rattle.source.specs.JournalCache

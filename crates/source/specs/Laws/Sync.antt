@@ -4,7 +4,7 @@
 use mathlib.Core.Path.{_≡_, refl, sym, _∙_, ap}
 use mathlib.Core.Logic.{⊎-elim}
 use Rattle.laws.specs.Sets.{Map, no-keys, bind, unbind}
-use Rattle.layout.specs.declared.geometry.Geometry.{Geometry}
+use Rattle.layout.specs.declared.Geometry.{Geometry}
 use Rattle.codec.specs.Codec.{Codec}
 use Rattle.source.specs.JournalDisk.{DiskOp}
 use Rattle.source.specs.JournalCache as M

@@ -13,10 +13,10 @@ use native.Mathlib.Omega.{arith}
 use lib.ListN.{length, getD}
 use lib.Seq.{ext-getD}
 use Rattle.laws.specs.Choice.{split-le}
-use Rattle.layout.specs.declared.geometry.Geometry.{Geometry}
-use Rattle.layout.specs.declared.location.Location.{Location}
+use Rattle.layout.specs.declared.Geometry.{Geometry}
+use Rattle.layout.specs.declared.Location.{Location}
 use Rattle.layout.specs.Geometry.{NumJournalBlocks}
-use Rattle.interval.specs.declared.interval.JournalInterval.{JournalInterval}
+use Rattle.interval.specs.declared.JournalInterval.{JournalInterval}
 use Rattle.interval.specs.Journal.{JournalBlock, JournalUpdate}
 use Rattle.laws.specs.Sets.{at, bind, same-value, none-some}
 use Rattle.codec.specs.Codec.{JournalEntry, JournalRange, Codec}

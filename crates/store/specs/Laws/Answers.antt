@@ -6,25 +6,25 @@ use mathlib.Core.List.{List}
 use mathlib.Core.Logic.{_⊎_, inl, inr, ⊎-elim}
 use lib.Dec.{eqb}
 use Rattle.laws.specs.Choice.{andThen, andThen-first, andThen-done, unless, unless-kept, unless-done, refused-said, asked-yes, asked-no, asked-either, split-eq, ruin}
-use Rattle.layout.specs.declared.geometry.Geometry.{Geometry}
-use Rattle.superblock.specs.declared.disk_op.DiskOp.{DiskOp}
-use Rattle.superblock.specs.declared.disk_op.DiskOp.the-variants as op
-use Rattle.machine.specs.declared.machine.Machine.{Machine}
-use Rattle.machine.specs.declared.machine.MachineAnswer.{MachineAnswer}
-use Rattle.machine.specs.declared.machine.MachineAnswer.the-variants as machine
-use Rattle.machine.specs.declared.machine.MachineStepped.{MachineStepped}
+use Rattle.layout.specs.declared.Geometry.{Geometry}
+use Rattle.superblock.specs.declared.DiskOp.{DiskOp}
+use Rattle.superblock.specs.declared.DiskOp.the-variants as op
+use Rattle.machine.specs.declared.Machine.{Machine}
+use Rattle.machine.specs.declared.MachineAnswer.{MachineAnswer}
+use Rattle.machine.specs.declared.MachineAnswer.the-variants as machine
+use Rattle.machine.specs.declared.MachineStepped.{MachineStepped}
 use Rattle.machine.specs.Machine as M
 use Rattle.machine.specs.Laws.Answers as machineAnswers
-use Rattle.disk.specs.declared.disk.Disk.{Disk}
-use Rattle.disk.specs.declared.disk.DiskAnswer.{DiskAnswer}
-use Rattle.disk.specs.declared.disk.DiskAnswer.the-variants as disk
-use Rattle.disk.specs.declared.disk.DiskStepped.{DiskStepped}
+use Rattle.disk.specs.declared.Disk.{Disk}
+use Rattle.disk.specs.declared.DiskAnswer.{DiskAnswer}
+use Rattle.disk.specs.declared.DiskAnswer.the-variants as disk
+use Rattle.disk.specs.declared.DiskStepped.{DiskStepped}
 use Rattle.disk.specs.Disk as D
 use Rattle.disk.specs.Laws.Answers as diskAnswers
 use Rattle.disk.specs.Operation.{askDecision, operationNext}
-use Rattle.store.specs.declared.store.Store.{Store}
-use Rattle.store.specs.declared.store.StoreAnswer.the-variants as answer
-use Rattle.store.specs.declared.store.StoreStepped.{StoreStepped}
+use Rattle.store.specs.declared.Store.{Store}
+use Rattle.store.specs.declared.StoreAnswer.the-variants as answer
+use Rattle.store.specs.declared.StoreStepped.{StoreStepped}
 use Rattle.store.specs.Store.{store, refused, accepted, answered}
 use Rattle.store.specs.Steps.{askBoth, both, machineRefusal, diskRefusal, answeredBy, bothBy}
 

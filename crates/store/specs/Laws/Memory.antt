@@ -7,26 +7,26 @@ use lib.Dec.{eqb}
 use lib.ListN.{take, drop}
 use Rattle.laws.specs.Choice.{unless, unless-kept, unless-done, asked-no}
 use Rattle.laws.specs.Splice.{splice}
-use Rattle.layout.specs.declared.geometry.Geometry.{Geometry}
-use Rattle.interval.specs.declared.interval.JournalInterval.{JournalInterval}
-use Rattle.superblock.specs.declared.disk_op.MaybeId.{MaybeId}
-use Rattle.superblock.specs.declared.disk_op.SuperblockRead.{SuperblockRead}
-use Rattle.superblock.specs.declared.disk_op.JournalRead.{JournalRead}
-use Rattle.superblock.specs.declared.disk_op.DiskOp.{DiskOp}
-use Rattle.superblock.specs.declared.disk_op.DiskOp.the-variants as op
+use Rattle.layout.specs.declared.Geometry.{Geometry}
+use Rattle.interval.specs.declared.JournalInterval.{JournalInterval}
+use Rattle.superblock.specs.declared.MaybeId.{MaybeId}
+use Rattle.superblock.specs.declared.SuperblockRead.{SuperblockRead}
+use Rattle.superblock.specs.declared.JournalRead.{JournalRead}
+use Rattle.superblock.specs.declared.DiskOp.{DiskOp}
+use Rattle.superblock.specs.declared.DiskOp.the-variants as op
 use Rattle.journal.specs.Memory.{updateMarks, copyBlocks}
-use Rattle.memory.specs.declared.count.Count.{Count}
+use Rattle.memory.specs.declared.Count.{Count}
 use Rattle.writer.specs.Ring.{putRange}
-use Rattle.loading.specs.declared.other.Paged.{Paged}
-use Rattle.ready.specs.declared.entries.Bodies.{Bodies}
-use Rattle.machine.specs.declared.machine.Machine.{Machine}
+use Rattle.loading.specs.declared.Paged.{Paged}
+use Rattle.ready.specs.declared.Bodies.{Bodies}
+use Rattle.machine.specs.declared.Machine.{Machine}
 use Rattle.machine.specs.Loading.{pagedIn, pageInJournalRespOp, pageInJournalRespMachine, askPageInSuperblockRespStep, pageInSuperblockRespOp, pageInSuperblockRespMachine}
 use Rattle.machine.specs.Working.{sentOf, leftOf, movedBytes, movedLens, writeBackJournalRespOp, writeBackJournalRespMachine, askWriteBackSuperblockRespStep, writeBackSuperblockRespOp, writeBackSuperblockRespMachine}
-use Rattle.disk.specs.declared.disk.Disk.{Disk}
-use Rattle.disk.specs.declared.disk.DiskStepped.{DiskStepped}
-use Rattle.disk.specs.declared.disk.DiskAnswer.the-variants as disk
-use Rattle.disk.specs.declared.disk.JournalAcked.{JournalAcked}
-use Rattle.disk.specs.declared.disk.JournalAnswer.the-variants as journalAnswer
+use Rattle.disk.specs.declared.Disk.{Disk}
+use Rattle.disk.specs.declared.DiskStepped.{DiskStepped}
+use Rattle.disk.specs.declared.DiskAnswer.the-variants as disk
+use Rattle.disk.specs.declared.JournalAcked.{JournalAcked}
+use Rattle.disk.specs.declared.JournalAnswer.the-variants as journalAnswer
 use Rattle.disk.specs.Disk as D
 use Rattle.requests.specs.Slots.{slotOf}
 use Rattle.requests.specs.Acknowledge.{heldInterval, askAckReadJournal}
@@ -34,9 +34,9 @@ use Rattle.disk.specs.Next.{ackReadJournalNext, journalAnswered}
 use Rattle.requests.specs.Landing.{askLand}
 use Rattle.disk.specs.Next.{landNext}
 use Rattle.disk.specs.Laws.Answers.{done-asked, asked-done, refused-asked, asked-refused, journal-refused, journal-read, asked-journal-read, journal-same}
-use Rattle.store.specs.declared.store.Store.{Store}
-use Rattle.store.specs.declared.store.StoreAnswer.the-variants as answer
-use Rattle.store.specs.declared.store.StoreStepped.{StoreStepped}
+use Rattle.store.specs.declared.Store.{Store}
+use Rattle.store.specs.declared.StoreAnswer.the-variants as answer
+use Rattle.store.specs.declared.StoreStepped.{StoreStepped}
 use Rattle.store.specs.Store.{store, refused, accepted, answered}
 use Rattle.store.specs.Steps.{both, askBoth, askWriteJournal, writeOp, writeJournal, writtenInterval, writtenBlocks, writtenMarks, intervalOf, journalWritten, superblockWritten, readOf, askJournalRead, journalRead, readPieces, contentOf, superblockRead, land}
 use Rattle.store.specs.Laws.Answers as answers

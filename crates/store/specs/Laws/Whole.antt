@@ -4,20 +4,20 @@ use mathlib.Core.Bool.{Bool}
 use mathlib.Core.List.{List}
 use mathlib.Core.Path.{_≡_, refl, sym, _∙_, ap}
 use Rattle.laws.specs.Choice.{unless, unless-kept, unless-done, refused-said, asked-yes}
-use Rattle.layout.specs.declared.geometry.Geometry.{Geometry}
-use Rattle.superblock.specs.declared.disk_op.MaybeId.{MaybeId}
-use Rattle.superblock.specs.declared.disk_op.DiskOp.the-variants as op
+use Rattle.layout.specs.declared.Geometry.{Geometry}
+use Rattle.superblock.specs.declared.MaybeId.{MaybeId}
+use Rattle.superblock.specs.declared.DiskOp.the-variants as op
 use Rattle.memory.specs.Given.{memory, countOf}
-use Rattle.ready.specs.declared.entries.Bodies.{Bodies}
-use Rattle.machine.specs.declared.questions.Asked.{Asked}
-use Rattle.machine.specs.declared.questions.Asked.the-variants as found
+use Rattle.ready.specs.declared.Bodies.{Bodies}
+use Rattle.machine.specs.declared.Asked.{Asked}
+use Rattle.machine.specs.declared.Asked.the-variants as found
 use Rattle.machine.specs.Questions as questions
 use Rattle.machine.specs.Loading.{askLoaded, loadedReplayBytes, loadedReplayLens}
 use Rattle.machine.specs.Working.{movedBytes, movedLens, givenOf, askAdvanceStep, appendedBytes, appendedLens}
 use Rattle.machine.specs.Laws.Found.{refused-found, held-found}
 use Rattle.crash.specs.Picture.{crashedBlocks, crashedMarks}
-use Rattle.store.specs.declared.store.Store.{Store}
-use Rattle.store.specs.declared.store.StoreStepped.{StoreStepped}
+use Rattle.store.specs.declared.Store.{Store}
+use Rattle.store.specs.declared.StoreStepped.{StoreStepped}
 use Rattle.store.specs.Store.{refused, accepted}
 use Rattle.store.specs.Lent.{Lent, withPending, withPieces, withReplay, withJournal, askStore}
 use Rattle.store.specs.Steps as one

@@ -10,7 +10,7 @@ use lib.Seq.{length-take-le, getD-take}
 use borrow.Author.Tests.{lt-ltb, le-ltb, le-leb}
 use Rattle.laws.specs.Choice.{also, also-false, split-bool, split-le}
 use Rattle.laws.specs.Sets.{no-ids, join, leave, idsOf, join-same, leave-same}
-use Rattle.tables.specs.declared.id_table.IdTable.{IdTable}
+use Rattle.tables.specs.declared.IdTable.{IdTable}
 use Rattle.tables.specs.Rows.{placeOf, Counted, askJoin, inUse, filled}
 use Rattle.tables.specs.IdTable.{idSet, SizedIds, noIds, addedId, joinedId, removedId}
 use Rattle.tables.specs.Laws.Places.{place-below, place-out, place-id}

@@ -9,13 +9,13 @@ use lib.ListN.{length, take, getD}
 use Rattle.laws.specs.Choice.{ruin}
 use Rattle.laws.specs.Maps.{Values, values-bind}
 use Rattle.laws.specs.Sets.{Map, no-keys, bind, unbind, keys, mapOf}
-use Rattle.layout.specs.declared.geometry.Geometry.{Geometry}
-use Rattle.interval.specs.declared.interval.JournalInterval.{JournalInterval}
+use Rattle.layout.specs.declared.Geometry.{Geometry}
+use Rattle.interval.specs.declared.JournalInterval.{JournalInterval}
 use Rattle.interval.specs.Interval.{interval, contiguousJournalInterval}
 use Rattle.interval.specs.Facts.{ContiguousJournalInterval, contiguous-facts, facts-contiguous}
-use Rattle.tables.specs.declared.id_table.IdTable.{IdTable}
-use Rattle.tables.specs.declared.interval_table.IntervalTable.{IntervalTable}
-use Rattle.tables.specs.declared.interval_table.Held.the-variants as held
+use Rattle.tables.specs.declared.IdTable.{IdTable}
+use Rattle.tables.specs.declared.IntervalTable.{IntervalTable}
+use Rattle.tables.specs.declared.Held.the-variants as held
 use Rattle.tables.specs.Rows.{placeOf, Counted, hasRoom, sameIds}
 use Rattle.tables.specs.IdTable.{idSet}
 use Rattle.tables.specs.IntervalTable.{intervalRows, intervalMap, noIntervals, SizedIntervals, validIntervals, heldOf, addedInterval, removedInterval}

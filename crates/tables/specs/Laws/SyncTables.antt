@@ -13,7 +13,7 @@ use Rattle.laws.specs.Fold.{every}
 use Rattle.laws.specs.Maps.{keys-bind, keys-each, each-bind, each-unbind, each-through, each-map, each-none, each-some}
 use Rattle.laws.specs.Part.{map-take}
 use Rattle.laws.specs.Sets.{Ids, join, no-keys, bind, unbind, each, keys, idsOf, mapOf, AtMost}
-use Rattle.tables.specs.declared.sync_table.SyncTable.{SyncTable}
+use Rattle.tables.specs.declared.SyncTable.{SyncTable}
 use Rattle.tables.specs.Rows.{placeOf, Counted, askAdd}
 use Rattle.tables.specs.SyncTable.{syncRows, stateMap, syncMap, noSyncs, SizedSyncs, okState, validStates, orZero, addedSync, removedSync, moved, movedSyncs}
 use Rattle.tables.specs.Laws.Counts.{Addable, add-few, few-add, count-few, few-count}

@@ -1,7 +1,7 @@
 use borrow.Author.Needs.{needs}
 use mathlib.Core.Path.{_∙_, ap}
 use Rattle.digest.specs.Laws.Parts.{takes-loaded}
-use Rattle.interval.specs.declared.answer.MaybeInterval.{MaybeInterval}
+use Rattle.interval.specs.declared.MaybeInterval.{MaybeInterval}
 use Rattle.loading.specs.Other.{frontBlocks, backBlocks}
 use Rattle.loading.specs.Pieces.{blocksOf}
 use Rattle.digest.proofs.blocks.take_loaded.Statement.{statement}

@@ -3,7 +3,7 @@ use lib.ListN.{length}
 use mathlib.Core.Path.{_≡_, sym, _∙_}
 use native.Mathlib.Omega.{arith}
 use Rattle.digest.specs.Laws.Parts.{held-yes, held-no}
-use Rattle.lengths.specs.declared.held.Held.the-variants as held
+use Rattle.lengths.specs.declared.Held.the-variants as held
 use Rattle.lengths.specs.Entries.{entriesHeld, Entries, entries-bytes}
 use Rattle.digest.proofs.held.take_held.Statement.{statement}
 use Rattle.digest.proofs.held.take_held.Tie as tie

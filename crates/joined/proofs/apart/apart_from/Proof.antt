@@ -6,7 +6,7 @@ use mathlib.Core.List.{List}
 use mathlib.Core.Path.{_≡_, refl, sym, _∙_, ap}
 use native.Mathlib.Omega.{arith}
 use Rattle.laws.specs.Fold.{every}
-use Rattle.interval.specs.declared.interval.JournalInterval.{JournalInterval}
+use Rattle.interval.specs.declared.JournalInterval.{JournalInterval}
 use Rattle.tables.specs.Laws.Walks.{cut-front, mapped}
 use Rattle.joined.specs.Apart.{apartFrom}
 use Rattle.joined.specs.Laws.Walks.{walk-no, walk-yes, walk-done}

@@ -2,7 +2,7 @@ use borrow.Author.Needs.{needs}
 use mathlib.Core.Path.{sym, _∙_}
 use Rattle.laws.specs.Choice.{unless-done, refused-kept, refused-said, asked-yes}
 use Rattle.journal.proofs.update.journal_update.Statement.{statement}
-use Rattle.journal.specs.declared.answer.Copied.the-variants as copied
+use Rattle.journal.specs.declared.Copied.the-variants as copied
 use Rattle.journal.proofs.update.journal_update.Tie as tie
 
 ask-update-requires : tie.Need-ask-update-requires

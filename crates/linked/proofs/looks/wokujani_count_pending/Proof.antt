@@ -1,5 +1,5 @@
 use borrow.Author.Needs.{needs}
-use Rattle.memory.specs.declared.count.Count.{Count}
+use Rattle.memory.specs.declared.Count.{Count}
 use Rattle.memory.specs.Answer.{pending-now, pending-refused}
 use Rattle.linked.specs.Answer.{gives, keeps}
 use mathlib.Core.Path.{sym, ap, _∙_}

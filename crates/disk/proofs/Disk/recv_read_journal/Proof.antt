@@ -1,0 +1,20 @@
+use Rattle.disk.specs.Laws.Answers.{refused-first, answered-next}
+use borrow.Author.Needs.{needs}
+use Rattle.disk.proofs.Disk.recv_read_journal.Statement.{statement}
+use Rattle.disk.proofs.Disk.recv_read_journal.Tie as tie
+
+ask-requires : tie.Need-ask-requires
+ask-requires c κs = search needs
+
+returns : tie.Need-returns
+returns c = refused-first _ _ _ (c .before .ask .ensures) _ _ (c .if1 .taken)
+
+recv-read-journal-asked-requires : tie.Need-recv-read-journal-asked-requires
+recv-read-journal-asked-requires c κs = search needs
+
+returns-2 : tie.Need-returns-2
+returns-2 c = answered-next _ _ _ (c .before .before .ask .ensures) _ _ _ (c .before .if1 .left) (c .recv-read-journal-asked .ensures)
+
+pub recv-read-journal-spec : {M : Type 1} → statement M
+recv-read-journal-spec =
+    tie.close (tie.spec ask-requires returns recv-read-journal-asked-requires returns-2)

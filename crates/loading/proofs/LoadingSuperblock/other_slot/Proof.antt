@@ -1,0 +1,12 @@
+use Rattle.laws.specs.Choice.{tests}
+use Rattle.loading.proofs.LoadingSuperblock.other_slot.Statement.{statement}
+use Rattle.loading.proofs.LoadingSuperblock.other_slot.Tie as tie
+
+returns : tie.Need-returns
+returns c = search tests
+
+returns-2 : tie.Need-returns-2
+returns-2 c = search tests
+
+pub other-slot-spec : {M : Type 1} → statement M
+other-slot-spec = tie.close (tie.spec returns returns-2)
