@@ -52,10 +52,7 @@ pub fn crash(
 {
     let q = ask_crash(d, g, picture, pictured, blocks, marks);
     if q != 0 {
-        return DiskStepped {
-            answer: DiskAnswer::Refused(q),
-            disk: d,
-        };
+        return d.refused(q);
     }
     let writes = d.journalWrites;
     crash_memory(writes, picture, pictured, blocks, marks);
@@ -72,10 +69,7 @@ pub fn crash_in_place(d: Disk, g: Geometry, blocks: &[u8], marks: &[u8]) -> Disk
 {
     let q = d.ask(g, blocks, marks);
     if q != 0 {
-        return DiskStepped {
-            answer: DiskAnswer::Refused(q),
-            disk: d,
-        };
+        return d.refused(q);
     }
     let next = no_requests(d);
     DiskStepped {

@@ -44,5 +44,8 @@ withJournalWrites d x = record { slots = d .slots; superblockReads = d .superblo
 abbrev pub refused : Disk → ℕ → DiskStepped
 refused d q = record { answer = answer.Refused q; disk = d }
 
+abbrev pub done : Disk → DiskStepped
+done d = record { answer = answer.Done; disk = d }
+
 unfoldable pub answered : ℕ → Disk → Disk → DiskStepped
-answered q next d = cond (eqb q 0) (record { answer = answer.Done; disk = next }) (refused d q)
+answered q next d = cond (eqb q 0) (done next) (refused d q)

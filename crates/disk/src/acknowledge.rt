@@ -1,7 +1,6 @@
 // What the disk does when it answers a request (001's AckRead and AckWrite), after questions 1 and 2. Each function decides by value and
 // shared slices and asks the other questions; none is a step by itself.
 use super::Disk;
-use super::DiskAnswer;
 use super::DiskStepped;
 use super::JournalAcked;
 use super::JournalAnswer;
@@ -69,17 +68,11 @@ impl Disk {
         let reads = self.superblockReads;
         let q = ask_read_superblock_as(slots, reads, which, id, read);
         if q != 0 {
-            return DiskStepped {
-                answer: DiskAnswer::Refused(q),
-                disk: self,
-            };
+            return self.refused(q);
         }
         let next = read_acked(reads, which, id);
         self.superblockReads = next;
-        DiskStepped {
-            answer: DiskAnswer::Done,
-            disk: self,
-        }
+        self.done()
     }
 
     // The interval of the read. Whoever calls copies its blocks, where the answer is whole.
@@ -110,17 +103,11 @@ impl Disk {
         let table = self.journalReads;
         let q = ask_ack_write_journal(table, id);
         if q != 0 {
-            return DiskStepped {
-                answer: DiskAnswer::Refused(q),
-                disk: self,
-            };
+            return self.refused(q);
         }
         let next = interval_left(table, id);
         self.journalReads = next;
-        DiskStepped {
-            answer: DiskAnswer::Done,
-            disk: self,
-        }
+        self.done()
     }
 
     pub fn ack_write_superblock_asked(mut self, which: u64, id: u64) -> DiskStepped
@@ -130,17 +117,11 @@ impl Disk {
         let writes = self.superblockWrites;
         let q = ask_ack_write_superblock(slots, writes, which, id);
         if q != 0 {
-            return DiskStepped {
-                answer: DiskAnswer::Refused(q),
-                disk: self,
-            };
+            return self.refused(q);
         }
         let next = writes.put(which, SuperblockWrite::NoWrite);
         self.superblockWrites = next;
-        DiskStepped {
-            answer: DiskAnswer::Done,
-            disk: self,
-        }
+        self.done()
     }
 
     pub fn ack_write_journal_asked(mut self, id: u64) -> DiskStepped
@@ -149,16 +130,10 @@ impl Disk {
         let table = self.journalWrites;
         let q = ask_ack_write_journal(table, id);
         if q != 0 {
-            return DiskStepped {
-                answer: DiskAnswer::Refused(q),
-                disk: self,
-            };
+            return self.refused(q);
         }
         let next = interval_left(table, id);
         self.journalWrites = next;
-        DiskStepped {
-            answer: DiskAnswer::Done,
-            disk: self,
-        }
+        self.done()
     }
 }

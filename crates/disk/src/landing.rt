@@ -1,6 +1,5 @@
 // A superblock write lands: its slot holds it (001's ProcessWriteSuperblock). The write stays in flight, and may land again.
 use super::Disk;
-use super::DiskAnswer;
 use super::DiskStepped;
 use requests::ask_land;
 use requests::slots_landed;
@@ -18,16 +17,10 @@ impl Disk {
         let writes = self.superblockWrites;
         let q = ask_land(writes, which);
         if q != 0 {
-            return DiskStepped {
-                answer: DiskAnswer::Refused(q),
-                disk: self,
-            };
+            return self.refused(q);
         }
         let next = slots_landed(slots, writes, which);
         self.slots = next;
-        DiskStepped {
-            answer: DiskAnswer::Done,
-            disk: self,
-        }
+        self.done()
     }
 }

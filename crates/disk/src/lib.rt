@@ -9,11 +9,12 @@
 //   land                                           a superblock write in flight lands
 //   step                                           one step over the whole disk operation type
 //   DiskStepped, SuperblockAcked, JournalAcked     what they answer: the next disk, or the number of a no and the disk as it was
+//   refused                                        a no, for a caller that has asked itself
 // Each of these operations asks every question. One named `.._asked` is a part of an operation for a step that has asked questions 1 and 2
 // itself: it asks the others, decides by value and on shared slices, and leaves lent memory to journal's `write_blocks`, `set_marks` and
 // `copy_blocks`; `decide_asked` is such a part for any operation. Every function is total.
 mod acknowledge;
-mod idle;
+mod answers;
 mod landing;
 mod memory;
 mod operation;

@@ -1,6 +1,5 @@
 // The two operations that touch lent blocks, after questions 1 and 2: a journal write, and a journal read's answer.
 use super::Disk;
-use super::DiskAnswer;
 use super::DiskStepped;
 use super::JournalAcked;
 use super::JournalAnswer;
@@ -65,19 +64,13 @@ impl Disk {
         let table = self.journalWrites;
         let q = ask_new_blocks(g, table, id1, id2, v, new);
         if q != 0 {
-            return DiskStepped {
-                answer: DiskAnswer::Refused(q),
-                disk: self,
-            };
+            return self.refused(q);
         }
         let next = write_received(g, table, id1, id2, v);
         self.journalWrites = next;
         journal::write_blocks(v, new, blocks);
         journal::set_marks(v, marks);
-        DiskStepped {
-            answer: DiskAnswer::Done,
-            disk: self,
-        }
+        self.done()
     }
 
     // The answer, then the blocks of the read.

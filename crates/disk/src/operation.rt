@@ -1,6 +1,5 @@
 // One step over the whole disk operation type of 001.
 use super::Disk;
-use super::DiskAnswer;
 use super::DiskStepped;
 use super::JournalAcked;
 use super::JournalAnswer;
@@ -29,14 +28,8 @@ fn as_stepped(r: JournalAcked) -> DiskStepped
     let a = r.answer;
     let d = r.disk;
     match a {
-        JournalAnswer::Read(_) => DiskStepped {
-            answer: DiskAnswer::Done,
-            disk: d,
-        },
-        JournalAnswer::Refused(q) => DiskStepped {
-            answer: DiskAnswer::Refused(q),
-            disk: d,
-        },
+        JournalAnswer::Read(_) => d.done(),
+        JournalAnswer::Refused(q) => d.refused(q),
     }
 }
 
@@ -78,10 +71,7 @@ impl Disk {
             DiskOp::RespReadJournal { id, journal: _ } => self.read_journal_answered(id),
             DiskOp::RespWriteSuperblock { id, which } => self.ack_write_superblock_asked(which, id),
             DiskOp::RespWriteJournal { id } => self.ack_write_journal_asked(id),
-            DiskOp::NoDiskOp => DiskStepped {
-                answer: DiskAnswer::Done,
-                disk: self,
-            },
+            DiskOp::NoDiskOp => self.done(),
         }
     }
 
@@ -136,10 +126,7 @@ impl Disk {
             }
             DiskOp::RespWriteSuperblock { id, which } => self.ack_write_superblock_asked(which, id),
             DiskOp::RespWriteJournal { id } => self.ack_write_journal_asked(id),
-            DiskOp::NoDiskOp => DiskStepped {
-                answer: DiskAnswer::Done,
-                disk: self,
-            },
+            DiskOp::NoDiskOp => self.done(),
         }
     }
 
@@ -160,10 +147,7 @@ impl Disk {
     {
         let q = self.ask_with_buffer(g, blocks, marks, out);
         if q != 0 {
-            return DiskStepped {
-                answer: DiskAnswer::Refused(q),
-                disk: self,
-            };
+            return self.refused(q);
         }
         self.operate(g, op, new, blocks, marks, out)
     }

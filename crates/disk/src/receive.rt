@@ -1,7 +1,6 @@
 // What the disk does with a request that it receives (001's RecvRead and RecvWrite), after questions 1 and 2. Each function decides by value
 // and asks the other questions; none is a step by itself.
 use super::Disk;
-use super::DiskAnswer;
 use super::DiskStepped;
 use interval::JournalInterval;
 use layout::Geometry;
@@ -26,17 +25,11 @@ impl Disk {
         let reads = self.superblockReads;
         let q = ask_recv_read_superblock(reads, which, id);
         if q != 0 {
-            return DiskStepped {
-                answer: DiskAnswer::Refused(q),
-                disk: self,
-            };
+            return self.refused(q);
         }
         let next = read_received(reads, which, id);
         self.superblockReads = next;
-        DiskStepped {
-            answer: DiskAnswer::Done,
-            disk: self,
-        }
+        self.done()
     }
 
     pub fn recv_read_journal_asked(
@@ -50,17 +43,11 @@ impl Disk {
         let table = self.journalReads;
         let q = ask_recv_read_journal(g, table, id, v);
         if q != 0 {
-            return DiskStepped {
-                answer: DiskAnswer::Refused(q),
-                disk: self,
-            };
+            return self.refused(q);
         }
         let next = table.add(id, v);
         self.journalReads = next;
-        DiskStepped {
-            answer: DiskAnswer::Done,
-            disk: self,
-        }
+        self.done()
     }
 
     // The newer write takes the older one's place.
@@ -75,10 +62,7 @@ impl Disk {
         let writes = self.superblockWrites;
         let q = ask_recv_write_superblock(writes, which, id);
         if q != 0 {
-            return DiskStepped {
-                answer: DiskAnswer::Refused(q),
-                disk: self,
-            };
+            return self.refused(q);
         }
         let write = SuperblockWrite::Writing {
             id: id,
@@ -86,10 +70,7 @@ impl Disk {
         };
         let next = writes.put(which, write);
         self.superblockWrites = next;
-        DiskStepped {
-            answer: DiskAnswer::Done,
-            disk: self,
-        }
+        self.done()
     }
 
     // The rows of a write of the blocks of `v`. Whoever calls writes the blocks and sets the marks.
@@ -105,16 +86,10 @@ impl Disk {
         let table = self.journalWrites;
         let q = ask_recv_write_journal(g, table, id1, id2, v);
         if q != 0 {
-            return DiskStepped {
-                answer: DiskAnswer::Refused(q),
-                disk: self,
-            };
+            return self.refused(q);
         }
         let next = write_received(g, table, id1, id2, v);
         self.journalWrites = next;
-        DiskStepped {
-            answer: DiskAnswer::Done,
-            disk: self,
-        }
+        self.done()
     }
 }

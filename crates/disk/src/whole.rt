@@ -1,7 +1,6 @@
 // The disk's operations, whole: questions 1 and 2, then the others, then the lent memory. A refusal hands the disk back and alters no lent
 // byte.
 use super::Disk;
-use super::DiskAnswer;
 use super::DiskStepped;
 use super::JournalAcked;
 use super::JournalAnswer;
@@ -28,10 +27,7 @@ impl Disk {
     {
         let q = self.ask(g, blocks, marks);
         if q != 0 {
-            return DiskStepped {
-                answer: DiskAnswer::Refused(q),
-                disk: self,
-            };
+            return self.refused(q);
         }
         self.recv_read_superblock_asked(which, id)
     }
@@ -49,10 +45,7 @@ impl Disk {
     {
         let q = self.ask(g, blocks, marks);
         if q != 0 {
-            return DiskStepped {
-                answer: DiskAnswer::Refused(q),
-                disk: self,
-            };
+            return self.refused(q);
         }
         self.recv_read_journal_asked(g, id, v)
     }
@@ -71,10 +64,7 @@ impl Disk {
     {
         let q = self.ask(g, blocks, marks);
         if q != 0 {
-            return DiskStepped {
-                answer: DiskAnswer::Refused(q),
-                disk: self,
-            };
+            return self.refused(q);
         }
         self.recv_write_superblock_asked(which, id, superblock)
     }
@@ -96,10 +86,7 @@ impl Disk {
     {
         let q = self.ask(g, blocks, marks);
         if q != 0 {
-            return DiskStepped {
-                answer: DiskAnswer::Refused(q),
-                disk: self,
-            };
+            return self.refused(q);
         }
         let v = JournalInterval {
             start: start,
@@ -166,10 +153,7 @@ impl Disk {
     {
         let q = self.ask(g, blocks, marks);
         if q != 0 {
-            return DiskStepped {
-                answer: DiskAnswer::Refused(q),
-                disk: self,
-            };
+            return self.refused(q);
         }
         self.ack_write_superblock_asked(which, id)
     }
@@ -180,10 +164,7 @@ impl Disk {
     {
         let q = self.ask(g, blocks, marks);
         if q != 0 {
-            return DiskStepped {
-                answer: DiskAnswer::Refused(q),
-                disk: self,
-            };
+            return self.refused(q);
         }
         self.ack_write_journal_asked(id)
     }
@@ -194,10 +175,7 @@ impl Disk {
     {
         let q = self.ask(g, blocks, marks);
         if q != 0 {
-            return DiskStepped {
-                answer: DiskAnswer::Refused(q),
-                disk: self,
-            };
+            return self.refused(q);
         }
         self.land_asked(which)
     }

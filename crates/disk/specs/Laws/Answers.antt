@@ -17,7 +17,7 @@ use Rattle.disk.specs.declared.SuperblockAcked.{SuperblockAcked}
 use Rattle.disk.specs.declared.SuperblockAnswer.the-variants as superblockAnswer
 use Rattle.disk.specs.declared.JournalAcked.{JournalAcked}
 use Rattle.disk.specs.declared.JournalAnswer.the-variants as journalAnswer
-use Rattle.disk.specs.Disk.{refused, answered}
+use Rattle.disk.specs.Disk.{refused, done, answered}
 use Rattle.disk.specs.Next.{superblockRefused, superblockAnswered, journalRefused, journalAnswered}
 use Rattle.requests.specs.Acknowledge.{heldInterval, askAckReadJournal}
 use Rattle.disk.specs.Memory.{readOut}
@@ -27,13 +27,11 @@ use Rattle.disk.specs.Operation.{isWhole, asStepped}
 module _ (k q : ℕ) (e : k ≡ q) where
   pub answered-no : (next d : Disk) → (k ≡ 0 → ⊥) → refused d k ≡ answered q next d
   unfolding answered
-  answered-no next d h = refused-said k q (record { answer = answer.Done; disk = next }) (refused d) e h
+  answered-no next d h = refused-said k q (done next) (refused d) e h
 
-  pub answered-yes : (x next d : Disk) → k ≡ 0 → x ≡ next → record { answer = answer.Done; disk = x } ≡ answered q next d
+  pub answered-yes : (x next d : Disk) → k ≡ 0 → x ≡ next → done x ≡ answered q next d
   unfolding answered
-  answered-yes x next d h p =
-      (λ i. record { answer = answer.Done; disk = p i })
-      ∙ sym (asked-yes q (record { answer = answer.Done; disk = next }) (refused d q) (sym e ∙ h))
+  answered-yes x next d h p = ap done p ∙ sym (asked-yes q (done next) (refused d q) (sym e ∙ h))
 
   pub changed : (x old new : List ℕ) → k ≡ 0 → x ≡ new → x ≡ unless q old new
   changed x old new h p = p ∙ sym (unless-done q old new (sym e ∙ h))
@@ -83,15 +81,15 @@ module _ (q : ℕ) (next d : Disk) where
       ⊎-elim
       (λ y. y .0)
       (λ n. let p = n .1 in ruin (cc))
-      (asked-either q (record { answer = answer.Done; disk = next }) (refused d q) (answered q next d) refl)
+      (asked-either q (done next) (refused d q) (answered q next d) refl)
 
-  pub asked-done : q ≡ 0 → answered q next d ≡ record { answer = answer.Done; disk = next }
+  pub asked-done : q ≡ 0 → answered q next d ≡ done next
   unfolding answered
-  asked-done h = asked-yes q (record { answer = answer.Done; disk = next }) (refused d q) h
+  asked-done h = asked-yes q (done next) (refused d q) h
 
   pub asked-refused : (q ≡ 0 → ⊥) → answered q next d ≡ refused d q
   unfolding answered
-  asked-refused h = asked-no q (record { answer = answer.Done; disk = next }) (refused d q) h
+  asked-refused h = asked-no q (done next) (refused d q) h
 
   pub refused-asked : (n : ℕ) → answered q next d .answer ≡ answer.Refused n → q ≡ 0 → ⊥
   refused-asked n e h = let p = asked-done h in ruin (cc)
@@ -157,7 +155,7 @@ stepped-as : (q : ℕ) (v : JournalInterval) (next d : Disk) → asStepped (jour
 unfolding journalAnswered answered
 stepped-as q v next d = go (eqb q 0)
   where
-    go : (b : Bool) → asStepped (cond b (record { answer = journalAnswer.Read v; disk = next }) (journalRefused d q)) ≡ cond b (record { answer = answer.Done; disk = next }) (refused d q)
+    go : (b : Bool) → asStepped (cond b (record { answer = journalAnswer.Read v; disk = next }) (journalRefused d q)) ≡ cond b (done next) (refused d q)
     go true = refl
     go false = refl
 

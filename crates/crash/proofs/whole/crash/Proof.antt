@@ -1,11 +1,15 @@
 use Rattle.disk.specs.Laws.Answers.{answered-no, answered-yes, changed}
 use Rattle.laws.specs.Choice.{refused-kept}
+use mathlib.Core.Path.{_∙_}
 use borrow.Author.Needs.{needs}
 use Rattle.crash.proofs.whole.crash.Statement.{statement}
 use Rattle.crash.proofs.whole.crash.Tie as tie
 
 ask-crash-requires : tie.Need-ask-crash-requires
 ask-crash-requires c κs = search needs
+
+refused-requires : tie.Need-refused-requires
+refused-requires c κs = search needs
 
 same-length : tie.Need-same-length
 same-length c = search needs
@@ -14,7 +18,7 @@ same-length-2 : tie.Need-same-length-2
 same-length-2 c = search needs
 
 returns : tie.Need-returns
-returns c = let e = c .before .ask-crash .ensures in let h = c .if1 .taken in (answered-no _ _ e _ _ h, (refused-kept _ _ _ _ e h, refused-kept _ _ _ _ e h))
+returns c = let e = c .before .before .ask-crash .ensures in let h = c .before .if1 .taken in (c .refused .ensures ∙ answered-no _ _ e _ _ h, (refused-kept _ _ _ _ e h, refused-kept _ _ _ _ e h))
 
 crash-memory-requires : tie.Need-crash-memory-requires
 crash-memory-requires c κs = search needs
@@ -41,6 +45,7 @@ crash-spec =
     tie.close
     (tie.spec
     ask-crash-requires
+    refused-requires
     same-length
     same-length-2
     returns

@@ -8,8 +8,11 @@ use Rattle.crash.proofs.whole.crash_in_place.Tie as tie
 ask-requires : tie.Need-ask-requires
 ask-requires c κs = search needs
 
+refused-requires : tie.Need-refused-requires
+refused-requires c κs = search needs
+
 returns : tie.Need-returns
-returns c = answered-no _ _ (c .before .ask .ensures ∙ own-asks _ _ _ _) _ _ (c .if1 .taken)
+returns c = c .refused .ensures ∙ answered-no _ _ (c .before .before .ask .ensures ∙ own-asks _ _ _ _) _ _ (c .before .if1 .taken)
 
 no-requests-requires : tie.Need-no-requests-requires
 no-requests-requires c κs = search needs
@@ -18,4 +21,4 @@ returns-2 : tie.Need-returns-2
 returns-2 c = answered-yes _ _ (c .before .before .ask .ensures ∙ own-asks _ _ _ _) _ _ _ (c .before .if1 .left) (c .no-requests .ensures)
 
 pub crash-in-place-spec : {M : Type 1} → statement M
-crash-in-place-spec = tie.close (tie.spec ask-requires returns no-requests-requires returns-2)
+crash-in-place-spec = tie.close (tie.spec ask-requires refused-requires returns no-requests-requires returns-2)

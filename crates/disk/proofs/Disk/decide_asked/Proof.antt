@@ -1,4 +1,3 @@
-use mathlib.Core.Path.{refl}
 use Rattle.disk.specs.Disk.{answered}
 use borrow.Author.Needs.{needs}
 use Rattle.disk.proofs.Disk.decide_asked.Statement.{statement}
@@ -55,6 +54,9 @@ ack-write-journal-asked-requires c κs = search needs
 enum-told : tie.Need-enum-told
 enum-told c = search needs
 
+done-requires : tie.Need-done-requires
+done-requires c κs = search needs
+
 returns : tie.Need-returns
 returns c = rw (c .before .before .op .given .1) (c .recv-read-superblock-asked .ensures)
 
@@ -81,7 +83,7 @@ returns-8 c = rw (c .before .before .op8 .given .1) (c .ack-write-journal-asked 
 
 returns-9 : tie.Need-returns-9
 unfolding answered
-returns-9 c = rw (c .enum-told .given .1) refl
+returns-9 c = rw (c .before .enum-told .given .1) (c .done .ensures)
 
 pub decide-asked-spec : {M : Type 1} → statement M
 decide-asked-spec =
@@ -104,6 +106,7 @@ decide-asked-spec =
     enum-known-op-8
     ack-write-journal-asked-requires
     enum-told
+    done-requires
     returns
     returns-2
     returns-3

@@ -1,4 +1,3 @@
-use mathlib.Core.Path.{refl}
 use Rattle.laws.specs.Choice.{unless-same}
 use Rattle.disk.specs.Disk.{answered}
 use Rattle.disk.specs.Laws.Answers.{read-answered, read-copied}
@@ -63,6 +62,9 @@ ack-write-journal-asked-requires c κs = search needs
 enum-told : tie.Need-enum-told
 enum-told c = search needs
 
+done-requires : tie.Need-done-requires
+done-requires c κs = search needs
+
 returns : tie.Need-returns
 returns c = rw (c .before .before .op .given .1) (c .recv-read-superblock-asked .ensures, (unless-same _ _, (unless-same _ _, unless-same _ _)))
 
@@ -104,7 +106,7 @@ returns-8 c = rw (c .before .before .op8 .given .1) (c .ack-write-journal-asked 
 
 returns-9 : tie.Need-returns-9
 unfolding answered
-returns-9 c = rw (c .enum-told .given .1) (refl, (unless-same _ _, (unless-same _ _, unless-same _ _)))
+returns-9 c = rw (c .before .enum-told .given .1) (c .done .ensures, (unless-same _ _, (unless-same _ _, unless-same _ _)))
 
 pub operate-spec : {M : Type 1} → statement M
 operate-spec =
@@ -129,6 +131,7 @@ operate-spec =
     enum-known-op-8
     ack-write-journal-asked-requires
     enum-told
+    done-requires
     returns
     returns-2
     returns-3

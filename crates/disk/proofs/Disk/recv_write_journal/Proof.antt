@@ -1,3 +1,4 @@
+use mathlib.Core.Path.{_∙_}
 use Rattle.disk.specs.Laws.Answers.{refused-first, answered-next, kept-first, kept-next}
 use borrow.Author.Needs.{needs}
 use Rattle.disk.proofs.Disk.recv_write_journal.Statement.{statement}
@@ -6,6 +7,9 @@ use Rattle.disk.proofs.Disk.recv_write_journal.Tie as tie
 ask-requires : tie.Need-ask-requires
 ask-requires c κs = search needs
 
+refused-requires : tie.Need-refused-requires
+refused-requires c κs = search needs
+
 same-length : tie.Need-same-length
 same-length c = search needs
 
@@ -13,7 +17,7 @@ same-length-2 : tie.Need-same-length-2
 same-length-2 c = search needs
 
 returns : tie.Need-returns
-returns c = let a = c .before .ask .ensures in let h = c .if1 .taken in (refused-first _ _ _ a _ _ h, (kept-first _ _ _ a _ _ h, kept-first _ _ _ a _ _ h))
+returns c = let a = c .before .before .ask .ensures in let h = c .before .if1 .taken in (c .refused .ensures ∙ refused-first _ _ _ a _ _ h, (kept-first _ _ _ a _ _ h, kept-first _ _ _ a _ _ h))
 
 write-blocks-requires : tie.Need-write-blocks-requires
 write-blocks-requires c κs = search needs
@@ -32,6 +36,7 @@ recv-write-journal-spec =
     tie.close
     (tie.spec
     ask-requires
+    refused-requires
     same-length
     same-length-2
     returns

@@ -1,3 +1,4 @@
+use mathlib.Core.Path.{_∙_}
 use Rattle.disk.specs.Laws.Answers.{refused-first, answered-next, kept-first, kept-next}
 use borrow.Author.Needs.{needs}
 use Rattle.disk.proofs.Disk.step.Statement.{statement}
@@ -5,6 +6,9 @@ use Rattle.disk.proofs.Disk.step.Tie as tie
 
 ask-with-buffer-requires : tie.Need-ask-with-buffer-requires
 ask-with-buffer-requires c κs = search needs
+
+refused-requires : tie.Need-refused-requires
+refused-requires c κs = search needs
 
 same-length : tie.Need-same-length
 same-length c = search needs
@@ -16,7 +20,7 @@ same-length-3 : tie.Need-same-length-3
 same-length-3 c = search needs
 
 returns : tie.Need-returns
-returns c = let a = c .before .ask-with-buffer .ensures in let h = c .if1 .taken in (refused-first _ _ _ a _ _ h, (kept-first _ _ _ a _ _ h, (kept-first _ _ _ a _ _ h, kept-first _ _ _ a _ _ h)))
+returns c = let a = c .before .before .ask-with-buffer .ensures in let h = c .before .if1 .taken in (c .refused .ensures ∙ refused-first _ _ _ a _ _ h, (kept-first _ _ _ a _ _ h, (kept-first _ _ _ a _ _ h, kept-first _ _ _ a _ _ h)))
 
 operate-requires : tie.Need-operate-requires
 operate-requires c κs = search needs
@@ -38,6 +42,7 @@ step-spec =
     tie.close
     (tie.spec
     ask-with-buffer-requires
+    refused-requires
     same-length
     same-length-2
     same-length-3

@@ -1,5 +1,7 @@
-// A disk that nothing has been asked of.
+// A disk that nothing has been asked of, and the two forms of an answer.
 use super::Disk;
+use super::DiskAnswer;
+use super::DiskStepped;
 use requests::Slots;
 use requests::SuperblockReads;
 use requests::SuperblockWrite;
@@ -7,7 +9,7 @@ use requests::SuperblockWrites;
 use tables::IdTable;
 use tables::IntervalTable;
 ghost use mathlib.Core.Path.{_≡_};
-ghost use Rattle.disk.specs.Disk.{idleDisk};
+ghost use Rattle.disk.specs.Disk.{idleDisk, refused, done};
 
 impl Disk {
     // A disk without requests.
@@ -30,6 +32,26 @@ impl Disk {
             superblockWrites: writes,
             journalReads: rows,
             journalWrites: rows,
+        }
+    }
+
+    // A no: the number of the question, and the disk as it was.
+    pub fn refused(self, q: u8) -> DiskStepped
+        ensures { λ r. ⌜ r ≡ refused self q ⌝ }
+    {
+        DiskStepped {
+            answer: DiskAnswer::Refused(q),
+            disk: self,
+        }
+    }
+
+    // A yes: this, the next disk.
+    pub(crate) fn done(self) -> DiskStepped
+        ensures { λ r. ⌜ r ≡ done self ⌝ }
+    {
+        DiskStepped {
+            answer: DiskAnswer::Done,
+            disk: self,
         }
     }
 }
