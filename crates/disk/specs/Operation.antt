@@ -16,6 +16,8 @@ use Rattle.disk.specs.declared.DiskAnswer.the-variants as answer
 use Rattle.disk.specs.declared.JournalAcked.{JournalAcked}
 use Rattle.disk.specs.declared.JournalAnswer.{JournalAnswer}
 use Rattle.disk.specs.declared.JournalAnswer.the-variants as journalAnswer
+use Rattle.disk.specs.declared.Touched.{Touched}
+use Rattle.disk.specs.declared.Touched.the-variants as touched
 use Rattle.requests.specs.Receive.{askRecvReadSuperblock, askRecvReadJournal, askRecvWriteSuperblock, askRecvWriteJournal}
 use Rattle.disk.specs.Next.{recvReadSuperblockNext, recvReadJournalNext, recvWriteSuperblockNext, recvWriteJournalNext}
 use Rattle.requests.specs.Acknowledge.{askReadSuperblockAs, heldInterval, askAckReadJournal, askAckWriteSuperblock, askAckWriteJournal}
@@ -25,6 +27,18 @@ use Rattle.disk.specs.Memory.{askNewBlocks, readOut}
 unfoldable pub isWhole : JournalRead → Bool
 isWhole read.Whole = true
 isWhole read.Damaged = false
+
+-- what each operation touches of lent blocks
+unfoldable pub touchedBy : DiskOp → Touched
+touchedBy (op.ReqWriteJournal id1 id2 start count) = touched.Written id1 id2 (interval start count)
+touchedBy (op.RespReadJournal id journal) = touched.Read id journal
+touchedBy (op.ReqReadSuperblock id which) = touched.Nothing
+touchedBy (op.ReqReadJournal id v) = touched.Nothing
+touchedBy (op.ReqWriteSuperblock id which superblock) = touched.Nothing
+touchedBy (op.RespReadSuperblock id which superblock) = touched.Nothing
+touchedBy (op.RespWriteSuperblock id which) = touched.Nothing
+touchedBy (op.RespWriteJournal id) = touched.Nothing
+touchedBy op.NoDiskOp = touched.Nothing
 
 -- a journal read's answer as an operation's
 abbrev pub doneOr : JournalAnswer → DiskAnswer

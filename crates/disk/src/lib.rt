@@ -26,6 +26,8 @@ use interval::JournalInterval;
 use requests::Slots;
 use requests::SuperblockReads;
 use requests::SuperblockWrites;
+use superblock::JournalRead;
+use superblock::MaybeId;
 use superblock::SuperblockRead;
 use tables::IntervalTable;
 
@@ -69,4 +71,18 @@ pub enum JournalAnswer {
 pub struct JournalAcked {
     pub answer: JournalAnswer,
     pub disk: Disk,
+}
+
+// What an operation touches of lent blocks: a journal write sets some, a journal read's answer copies some, and no other touches any.
+pub(crate) enum Touched {
+    Written {
+        id1: u64,
+        id2: MaybeId,
+        interval: JournalInterval,
+    },
+    Read {
+        id: u64,
+        journal: JournalRead,
+    },
+    Nothing,
 }

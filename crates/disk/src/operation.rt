@@ -3,6 +3,7 @@ use super::Disk;
 use super::DiskStepped;
 use super::JournalAcked;
 use super::JournalAnswer;
+use super::Touched;
 use interval::JournalInterval;
 use layout::Geometry;
 use superblock::DiskOp;
@@ -10,7 +11,7 @@ use superblock::JournalRead;
 ghost use mathlib.Core.Path.{_≡_};
 ghost use Rattle.laws.specs.Choice.{unless};
 ghost use Rattle.disk.specs.Disk.{answered};
-ghost use Rattle.disk.specs.Operation.{isWhole, asStepped, askDecision, askOperation, operationNext, operationBlocks, operationMarks, operationOut};
+ghost use Rattle.disk.specs.Operation.{isWhole, touchedBy, asStepped, askDecision, askOperation, operationNext, operationBlocks, operationMarks, operationOut};
 ghost use Rattle.disk.specs.Whole.{step, stepBlocks, stepMarks, stepOut};
 
 fn is_whole(read: JournalRead) -> bool
@@ -19,6 +20,30 @@ fn is_whole(read: JournalRead) -> bool
     match read {
         JournalRead::Whole => true,
         JournalRead::Damaged => false,
+    }
+}
+
+fn touched_by(op: DiskOp) -> Touched
+    ensures { λ r. ⌜ r ≡ touchedBy op ⌝ }
+{
+    match op {
+        DiskOp::ReqReadSuperblock { .. } => Touched::Nothing,
+        DiskOp::ReqReadJournal { .. } => Touched::Nothing,
+        DiskOp::ReqWriteSuperblock { .. } => Touched::Nothing,
+        DiskOp::ReqWriteJournal {
+            id1,
+            id2,
+            start,
+            blocks: len,
+        } => {
+            let interval = JournalInterval { start, len };
+            Touched::Written { id1, id2, interval }
+        }
+        DiskOp::RespReadSuperblock { .. } => Touched::Nothing,
+        DiskOp::RespReadJournal { id, journal } => Touched::Read { id, journal },
+        DiskOp::RespWriteSuperblock { .. } => Touched::Nothing,
+        DiskOp::RespWriteJournal { .. } => Touched::Nothing,
+        DiskOp::NoDiskOp => Touched::Nothing,
     }
 }
 
@@ -90,43 +115,23 @@ impl Disk {
         ensures { λ _. ⌜ now (marks .exit) ≡ unless (askOperation g self op (now (new .entry)) (now (marks .entry))) (now (marks .entry)) (operationMarks op (now (marks .entry))) ⌝ }
         ensures { λ _. ⌜ now (out .exit) ≡ unless (askOperation g self op (now (new .entry)) (now (marks .entry))) (now (out .entry)) (operationOut self op (now (blocks .entry)) (now (out .entry))) ⌝ }
     {
-        match op {
-            DiskOp::ReqReadSuperblock { id, which } => self.recv_read_superblock_asked(which, id),
-            DiskOp::ReqReadJournal { id, interval } => self.recv_read_journal_asked(
+        let t = touched_by(op);
+        match t {
+            Touched::Written { id1, id2, interval } => self.write_blocks(
                 g,
-                id,
-                interval,
-            ),
-            DiskOp::ReqWriteSuperblock {
-                id,
-                which,
-                superblock,
-            } => self.recv_write_superblock_asked(which, id, superblock),
-            DiskOp::ReqWriteJournal {
                 id1,
                 id2,
-                start,
-                blocks: count,
-            } => {
-                let v = JournalInterval {
-                    start: start,
-                    len: count,
-                };
-                self.write_blocks(g, id1, id2, v, new, blocks, marks)
-            }
-            DiskOp::RespReadSuperblock {
-                id,
-                which,
-                superblock,
-            } => self.read_superblock_as(which, id, superblock),
-            DiskOp::RespReadJournal { id, journal: read } => {
+                interval,
+                new,
+                blocks,
+                marks,
+            ),
+            Touched::Read { id, journal: read } => {
                 let whole = is_whole(read);
                 let r = self.read_blocks(id, whole, blocks, marks, out);
                 as_stepped(r)
             }
-            DiskOp::RespWriteSuperblock { id, which } => self.ack_write_superblock_asked(which, id),
-            DiskOp::RespWriteJournal { id } => self.ack_write_journal_asked(id),
-            DiskOp::NoDiskOp => self.done(),
+            Touched::Nothing => self.decide_asked(g, op),
         }
     }
 
