@@ -7,34 +7,7 @@ ghost use Rattle.crash.specs.Picture.{crashedBlocks, crashedMarks};
 // The places of a table.
 const SIZE: usize = 16;
 
-fn crash_blocks(writes: IntervalTable, picture: &[u8], blocks: &mut [u8])
-    ensures { λ _. ⌜ now (blocks .exit) ≡ crashedBlocks writes (now (picture .entry)) (now (blocks .entry)) ⌝ }
-{
-    let rows = writes.intervals;
-    let n = runs::lesser(writes.count, SIZE);
-    let mut i = 0;
-    while i < n {
-        let v = rows[i];
-        journal::copy_blocks(picture, v.start, v.len, blocks, v.start);
-        i += 1;
-    }
-}
-
-fn crash_marks(writes: IntervalTable, pictured: &[u8], marks: &mut [u8])
-    ensures { λ _. ⌜ now (marks .exit) ≡ crashedMarks writes (now (pictured .entry)) (now (marks .entry)) ⌝ }
-{
-    let rows = writes.intervals;
-    let n = runs::lesser(writes.count, SIZE);
-    let mut i = 0;
-    while i < n {
-        let v = rows[i];
-        let at = v.start as usize;
-        runs::copy_bytes(pictured, at, v.len as usize, marks, at);
-        i += 1;
-    }
-}
-
-// Both: `picture` is the picture's blocks, `pictured` its marks.
+// `picture` is the picture's blocks, `pictured` its marks.
 pub fn crash_memory(
     writes: IntervalTable,
     picture: &[u8],
@@ -45,6 +18,14 @@ pub fn crash_memory(
     ensures { λ _. ⌜ now (blocks .exit) ≡ crashedBlocks writes (now (picture .entry)) (now (blocks .entry)) ⌝ }
     ensures { λ _. ⌜ now (marks .exit) ≡ crashedMarks writes (now (pictured .entry)) (now (marks .entry)) ⌝ }
 {
-    crash_blocks(writes, picture, blocks);
-    crash_marks(writes, pictured, marks);
+    let rows = writes.intervals;
+    let n = runs::lesser(writes.count, SIZE);
+    let mut i = 0;
+    while i < n {
+        let v = rows[i];
+        journal::copy_blocks(picture, v.start, v.len, blocks, v.start);
+        let at = v.start as usize;
+        runs::copy_bytes(pictured, at, v.len as usize, marks, at);
+        i += 1;
+    }
 }

@@ -15,58 +15,64 @@ use Rattle.interval.specs.declared.JournalInterval.{JournalInterval}
 use Rattle.journal.specs.Memory.{isMark, isOne, copyBlocks}
 use Rattle.journal.specs.Cells.{blockAt, cellAt, same-block}
 use Rattle.tables.specs.declared.IntervalTable.{IntervalTable}
-use Rattle.crash.specs.Picture.{inRows, covered, picked, crashedBlocks, crashedMarks}
+use Rattle.crash.specs.Picture.{inRow, inRows, covered, picked, crashedBlocks, crashedMarks}
 use Rattle.crash.specs.Laws.Picked.{inRun, length-picked, picked-new, picked-old, picked-none, picked-every, picked-same, picked-own, picked-run}
 use Rattle.crash.specs.Laws.Rows.{row-run, row-bytes, rows-none, rows-step}
 
--- the memory after the first i rows
+-- A memory after the first i rows, whose place p is of block `at p`: of byte p that is block p / 4096, of mark p block p.
+unfoldable pub afterRows : (ℕ → ℕ) → List JournalInterval → ℕ → List ℕ → List ℕ → List ℕ
+afterRows at vs i new old = picked (λ p. inRows (take i vs) (at p)) new old
+
 abbrev pub blocksAfter : List JournalInterval → ℕ → List ℕ → List ℕ → List ℕ
-blocksAfter vs i picture blocks = picked (λ p. inRows (take i vs) (p / 4096)) picture blocks
+blocksAfter = afterRows (λ p. p / 4096)
 
 abbrev pub marksAfter : List JournalInterval → ℕ → List ℕ → List ℕ → List ℕ
-marksAfter vs i pictured marks = picked (inRows (take i vs)) pictured marks
+marksAfter = afterRows (λ p. p)
 
-module _ (vs : List JournalInterval) (new old : List ℕ) where
-  -- before the first row, and one row more
-  pub blocks-start : old ≡ blocksAfter vs 0 new old
-  blocks-start = sym (picked-none (λ p. inRows (take 0 vs) (p / 4096)) new old (λ p h. rows-none (p / 4096) vs))
+module _ (at : ℕ → ℕ) (vs : List JournalInterval) (new old : List ℕ) where
+  -- before the first row
+  pub rows-start : old ≡ afterRows at vs 0 new old
+  unfolding afterRows
+  rows-start = sym (picked-none (λ p. inRows (take 0 vs) (at p)) new old (λ p h. rows-none (at p) vs))
 
-  pub marks-start : old ≡ marksAfter vs 0 new old
-  marks-start = sym (picked-none (inRows (take 0 vs)) new old (λ p h. rows-none p vs))
+  -- the length stays
+  pub rows-length : (i : ℕ) → length (afterRows at vs i new old) ≡ length old
+  unfolding afterRows
+  rows-length i = length-picked (λ p. inRows (take i vs) (at p)) new old
 
-  module _ (i : ℕ) (d : JournalInterval) (h : i < length vs) (x y : List ℕ) where
-    pub blocks-row : x ≡ blocksAfter vs i new old → y ≡ copyBlocks new (getD vs i d .start) (getD vs i d .len) x (getD vs i d .start) → y ≡ blocksAfter vs (i + 1) new old
-    unfolding copyBlocks
-    blocks-row e q =
-        let v : JournalInterval = getD vs i d in
-        q
-        ∙ ap (λ (y : List ℕ). clipped y (v .start * 4096) (take (v .len * 4096) (drop (v .start * 4096) new))) e
-        ∙ picked-run (λ p. inRows (take i vs) (p / 4096)) new old (v .start * 4096) (v .len * 4096)
-        ∙ picked-same (λ p. either (inRun (v .start * 4096) (v .len * 4096) p) (inRows (take i vs) (p / 4096))) (λ p. inRows (take (i + 1) vs) (p / 4096)) new old
-        (λ p l. ap (λ (b : Bool). either b (inRows (take i vs) (p / 4096))) (sym (row-bytes v p)) ∙ sym (rows-step (p / 4096) vs i d h))
+  -- one row more, which is a run of places
+  row-more : (i : ℕ) (d : JournalInterval) (h : i < length vs) (from n : ℕ) → ((p : ℕ) → inRow (getD vs i d) (at p) ≡ inRun from n p)
+      → (x y : List ℕ) → x ≡ afterRows at vs i new old → y ≡ clipped x from (take n (drop from new)) → y ≡ afterRows at vs (i + 1) new old
+  unfolding afterRows
+  row-more i d h from n run x y e q =
+      q
+      ∙ ap (λ (y : List ℕ). clipped y from (take n (drop from new))) e
+      ∙ picked-run (λ p. inRows (take i vs) (at p)) new old from n
+      ∙ picked-same (λ p. either (inRun from n p) (inRows (take i vs) (at p))) (λ p. inRows (take (i + 1) vs) (at p)) new old
+      (λ p l. ap (λ (b : Bool). either b (inRows (take i vs) (at p))) (sym (run p)) ∙ sym (rows-step (at p) vs i d h))
 
-    pub marks-row : x ≡ marksAfter vs i new old → y ≡ clipped x (getD vs i d .start) (take (getD vs i d .len) (drop (getD vs i d .start) new)) → y ≡ marksAfter vs (i + 1) new old
-    marks-row e q =
-        let v : JournalInterval = getD vs i d in
-        q
-        ∙ ap (λ (y : List ℕ). clipped y (v .start) (take (v .len) (drop (v .start) new))) e
-        ∙ picked-run (inRows (take i vs)) new old (v .start) (v .len)
-        ∙ picked-same (λ p. either (inRun (v .start) (v .len) p) (inRows (take i vs) p)) (inRows (take (i + 1) vs)) new old
-        (λ p l. ap (λ (b : Bool). either b (inRows (take i vs) p)) (sym (row-run v p)) ∙ sym (rows-step p vs i d h))
+module _ (vs : List JournalInterval) (new old : List ℕ) (i : ℕ) (d : JournalInterval) (h : i < length vs) (x y : List ℕ) where
+  pub blocks-row : x ≡ blocksAfter vs i new old → y ≡ copyBlocks new (getD vs i d .start) (getD vs i d .len) x (getD vs i d .start) → y ≡ blocksAfter vs (i + 1) new old
+  unfolding copyBlocks
+  blocks-row e q = row-more (λ p. p / 4096) vs new old i d h (getD vs i d .start * 4096) (getD vs i d .len * 4096) (row-bytes (getD vs i d)) x y e q
+
+  pub marks-row : x ≡ marksAfter vs i new old → y ≡ clipped x (getD vs i d .start) (take (getD vs i d .len) (drop (getD vs i d .start) new)) → y ≡ marksAfter vs (i + 1) new old
+  marks-row e q = row-more (λ p. p) vs new old i d h (getD vs i d .start) (getD vs i d .len) (row-run (getD vs i d)) x y e q
 
 module _ (t : IntervalTable) (new old : List ℕ) where
   -- after the last row: as many as are in use and the array has
   module _ (i size : ℕ) (l : length (t .intervals) ≡ size) (e : i ≡ min (t .count) size) where
-    all : take i (t .intervals) ≡ take (t .count) (t .intervals)
-    all = ap (λ (n : ℕ). take n (t .intervals)) e ∙ take-min (t .intervals) (t .count) size l
+    rows-end : (at : ℕ → ℕ) → afterRows at (t .intervals) i new old ≡ picked (λ p. covered t (at p)) new old
+    unfolding afterRows covered
+    rows-end at = ap (λ (vs : List JournalInterval). picked (λ p. inRows vs (at p)) new old) (ap (λ (n : ℕ). take n (t .intervals)) e ∙ take-min (t .intervals) (t .count) size l)
 
     pub blocks-end : blocksAfter (t .intervals) i new old ≡ crashedBlocks t new old
-    unfolding crashedBlocks covered
-    blocks-end = ap (λ (vs : List JournalInterval). picked (λ p. inRows vs (p / 4096)) new old) all
+    unfolding crashedBlocks
+    blocks-end = rows-end (λ p. p / 4096)
 
     pub marks-end : marksAfter (t .intervals) i new old ≡ crashedMarks t new old
-    unfolding crashedMarks covered
-    marks-end = ap (λ (vs : List JournalInterval). picked (inRows vs) new old) all
+    unfolding crashedMarks
+    marks-end = rows-end (λ p. p)
 
   -- lengths stay
   pub length-crashed-blocks : length (crashedBlocks t new old) ≡ length old
