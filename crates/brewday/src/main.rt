@@ -12,6 +12,8 @@ use requests::Slots;
 use store::Store;
 use superblock::MaybeSuperblock;
 use superblock::Superblock;
+ghost use mathlib.Core.Path.{_≡_};
+ghost use Prim.Native.Nat.{_-_, _<_};
 
 // Both slots: counter 0, an empty journal from block 0, table 1 with length 4,096.
 fn first_store() -> Store {
@@ -32,8 +34,17 @@ fn first_store() -> Store {
     Store::initial(slots)
 }
 
+// One turn is over. It is a function, since arithmetic beside all lent slices is dear to check.
+fn one_less(turns: usize) -> usize
+    requires { ⌜ 0 < turns ⌝ }
+    ensures { λ r. ⌜ r ≡ turns - 1 ⌝ }
+{
+    turns - 1
+}
+
 // Each turn takes one line; there are no more lines than bytes.
 fn run(
+    mut d: Day,
     input: &[u8],
     bytes: &mut [u8],
     lens: &mut [u16],
@@ -43,16 +54,10 @@ fn run(
     blocks: &mut [u8],
     marks: &mut [u8],
 ) {
-    let s = first_store();
-    let mut d = Day {
-        store: s,
-        at: 0,
-        row: 0,
-    };
     let mut turns = input.len();
     while 0 < turns {
-        turns -= 1;
         d = day::turn(d, input, bytes, lens, pieces, rbytes, rlens, blocks, marks);
+        turns = one_less(turns);
     }
 }
 
@@ -85,7 +90,14 @@ fn main() {
         return;
     }
     io::write_all(STDOUT_FILENO, b"n r k c s l w\n");
+    let s = first_store();
+    let d = Day {
+        store: s,
+        at: 0,
+        row: 0,
+    };
     run(
+        d,
         &input[..n],
         &mut bytes,
         &mut lens,

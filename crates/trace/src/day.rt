@@ -90,6 +90,7 @@ fn step(
     next
 }
 
+// The line, where one was read, as a step; a row is printed for it.
 pub(crate) fn turn(
     d: Day,
     g: Geometry,
@@ -103,6 +104,9 @@ pub(crate) fn turn(
     blocks: &mut [u8],
     marks: &mut [u8],
 ) -> Day {
+    if !i.whole {
+        return d;
+    }
     let s = d.store;
     let n = after(d.row);
     let mut brought = [0u8; 8192];

@@ -11,15 +11,30 @@ mod row;
 use day::Day;
 use first::First;
 use input::Input;
+use journal::bytes_of;
 use layout::Geometry;
 use runs::lesser;
 use store::Store;
+ghost use mathlib.Core.Bool.{cond};
+ghost use mathlib.Core.Path.{_≡_};
+ghost use Prim.Native.Nat.{_-_, _<_};
+
+// The turns that are left after one; none where it read no line. A function, since arithmetic beside all lent slices is dear to check.
+fn turns_left(turns: u64, read: bool) -> u64
+    requires { ⌜ 0 < turns ⌝ }
+    ensures { λ r. ⌜ r ≡ cond read (turns - 1) 0 ⌝ }
+{
+    if read {
+        return turns - 1;
+    }
+    0
+}
 
 // Each turn takes one line; the turns are counted down from a number that no day uses up.
 fn run(
-    s: Store,
+    mut d: Day,
     g: Geometry,
-    from: Input,
+    mut i: Input,
     chunk: &mut [u8],
     line: &mut [u8],
     bytes: &mut [u8],
@@ -30,15 +45,9 @@ fn run(
     blocks: &mut [u8],
     marks: &mut [u8],
 ) {
-    let mut d = Day { store: s, row: 0 };
-    let mut i = from;
     let mut turns = u64::MAX;
     while 0 < turns {
-        turns -= 1;
         i = input::read_line(i, chunk, line);
-        if !i.whole {
-            return;
-        }
         d = day::turn(
             d,
             g,
@@ -52,6 +61,7 @@ fn run(
             blocks,
             marks,
         );
+        turns = turns_left(turns, i.whole);
     }
 }
 
@@ -63,7 +73,7 @@ fn first_disk(line: &[u8], i: Input) -> First {
 
 // The store's memory is made for 32 blocks; what N blocks take of it is lent.
 fn play(
-    s: Store,
+    from: Day,
     g: Geometry,
     i: Input,
     chunk: &mut [u8],
@@ -76,15 +86,13 @@ fn play(
     blocks: &mut [u8],
     marks: &mut [u8],
 ) {
-    let n = lesser(g.blocks as usize, 32);
-    let size = n * 4096;
-    let a = lesser(size, pieces.len());
-    let b = lesser(size, rbytes.len());
-    let c = lesser(size, rlens.len());
-    let d = lesser(size, blocks.len());
-    let e = lesser(n, marks.len());
+    let a = bytes_of(g.blocks, pieces.len());
+    let b = bytes_of(g.blocks, rbytes.len());
+    let c = bytes_of(g.blocks, rlens.len());
+    let d = bytes_of(g.blocks, blocks.len());
+    let e = lesser(g.blocks as usize, marks.len());
     run(
-        s,
+        from,
         g,
         i,
         chunk,
@@ -120,8 +128,9 @@ fn main() {
     let g = f.geometry;
     let slots = f.slots;
     let s = Store::initial(slots);
+    let d = Day { store: s, row: 0 };
     play(
-        s,
+        d,
         g,
         i,
         &mut chunk,

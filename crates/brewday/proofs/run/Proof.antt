@@ -5,32 +5,29 @@ use Rattle.brewday.proofs.run.Statement.{statement}
 use Rattle.brewday.proofs.run.Tie as tie
 
 abbrev Inv-loop : tie.InvT-loop
-Inv-loop input bytes₀ lens₀ pieces₀ rbytes₀ rlens₀ blocks₀ marks₀ d₀ turns₀ bytes lens pieces rbytes rlens blocks marks d turns =
+Inv-loop d₀ input bytes₀ lens₀ pieces₀ rbytes₀ rlens₀ blocks₀ marks₀ turns₀ d bytes lens pieces rbytes rlens blocks marks turns =
     ((length bytes ≡ length bytes₀) × ((length lens ≡ length lens₀) × ((length pieces ≡ length pieces₀) × ((length rbytes ≡ length rbytes₀) × ((length rlens ≡ length rlens₀) × ((length blocks ≡ length blocks₀) × (length marks ≡ length marks₀)))))))
 
 abbrev μ-loop : tie.MeasureT-loop
-μ-loop input bytes₀ lens₀ pieces₀ rbytes₀ rlens₀ blocks₀ marks₀ d₀ turns₀ bytes lens pieces rbytes rlens blocks marks d turns =
+μ-loop d₀ input bytes₀ lens₀ pieces₀ rbytes₀ rlens₀ blocks₀ marks₀ turns₀ d bytes lens pieces rbytes rlens blocks marks turns =
     turns
-
-first-store-requires : tie.Need-first-store-requires Inv-loop μ-loop
-first-store-requires c κs = search needs
 
 loop-holds : tie.Need-loop-holds Inv-loop μ-loop
 loop-holds c = search needs
 
-sub-turns : tie.Need-sub-turns Inv-loop μ-loop
-sub-turns c = search needs
-
 turn-requires : tie.Need-turn-requires Inv-loop μ-loop
 turn-requires c κs = search needs
+
+one-less-requires : tie.Need-one-less-requires Inv-loop μ-loop
+one-less-requires c κs = search needs
 
 loop-less : tie.Need-loop-less Inv-loop μ-loop
 loop-less c = search needs
 
 loop-again : tie.Need-loop-again Inv-loop μ-loop
 loop-again c =
-    let k = c .before .before .before .before .before .before .before .before .before .before .before .before .before .before .turn .kept .1 .1 in
-    let v = c .before .before .before .before .before .before .before .before .before .before .before .before .before .before .before .before .before .before .before .before .before .before .before .loop .inv in
+    let k = c .before .before .before .before .before .before .before .before .before .before .before .before .before .before .before .turn .kept .1 .1 in
+    let v = c .before .before .before .before .before .before .before .before .before .before .before .before .before .before .before .before .before .before .before .before .before .before .before .before .loop .inv in
     (k .0 ∙ v .0, (k .1 .0 ∙ v .1 .0, (k .1 .1 .0 ∙ v .1 .1 .0, (k .1 .1 .1 .0 ∙ v .1 .1 .1 .0, (k .1 .1 .1 .1 .0 ∙ v .1 .1 .1 .1 .0, (k .1 .1 .1 .1 .1 .0 ∙ v .1 .1 .1 .1 .1 .0, k .1 .1 .1 .1 .1 .1 .0 ∙ v .1 .1 .1 .1 .1 .1))))))
 
 same-length : tie.Need-same-length Inv-loop μ-loop
@@ -63,10 +60,9 @@ run-spec =
     (tie.spec
     Inv-loop
     μ-loop
-    first-store-requires
     loop-holds
-    sub-turns
     turn-requires
+    one-less-requires
     loop-less
     loop-again
     same-length

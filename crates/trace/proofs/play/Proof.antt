@@ -2,26 +2,20 @@ use borrow.Author.Needs.{needs}
 use Rattle.trace.proofs.play.Statement.{statement}
 use Rattle.trace.proofs.play.Tie as tie
 
+bytes-of-requires : tie.Need-bytes-of-requires
+bytes-of-requires c κs = search needs
+
+bytes-of-requires-2 : tie.Need-bytes-of-requires-2
+bytes-of-requires-2 c κs = search needs
+
+bytes-of-requires-3 : tie.Need-bytes-of-requires-3
+bytes-of-requires-3 c κs = search needs
+
+bytes-of-requires-4 : tie.Need-bytes-of-requires-4
+bytes-of-requires-4 c κs = search needs
+
 lesser-requires : tie.Need-lesser-requires
 lesser-requires c κs = search needs
-
-mul-size : tie.Need-mul-size
-mul-size c = search needs
-
-lesser-requires-2 : tie.Need-lesser-requires-2
-lesser-requires-2 c κs = search needs
-
-lesser-requires-3 : tie.Need-lesser-requires-3
-lesser-requires-3 c κs = search needs
-
-lesser-requires-4 : tie.Need-lesser-requires-4
-lesser-requires-4 c κs = search needs
-
-lesser-requires-5 : tie.Need-lesser-requires-5
-lesser-requires-5 c κs = search needs
-
-lesser-requires-6 : tie.Need-lesser-requires-6
-lesser-requires-6 c κs = search needs
 
 sub-run : tie.Need-sub-run
 sub-run c = search needs
@@ -39,7 +33,7 @@ part-run-start-2 : tie.Need-part-run-start-2
 part-run-start-2 c = search needs
 
 part-run-end-2 : tie.Need-part-run-end-2
-part-run-end-2 c = search (needs, c .before .before .before .before .before .before .before .before .lesser3 .ensures)
+part-run-end-2 c = search (needs, c .before .before .before .before .before .before .before .before .bytes-of2 .ensures)
 
 sub-run-3 : tie.Need-sub-run-3
 sub-run-3 c = search needs
@@ -48,7 +42,7 @@ part-run-start-3 : tie.Need-part-run-start-3
 part-run-start-3 c = search needs
 
 part-run-end-3 : tie.Need-part-run-end-3
-part-run-end-3 c = search (needs, c .before .before .before .before .before .before .before .before .lesser4 .ensures)
+part-run-end-3 c = search (needs, c .before .before .before .before .before .before .before .before .bytes-of3 .ensures)
 
 sub-run-4 : tie.Need-sub-run-4
 sub-run-4 c = search needs
@@ -57,7 +51,7 @@ part-run-start-4 : tie.Need-part-run-start-4
 part-run-start-4 c = search needs
 
 part-run-end-4 : tie.Need-part-run-end-4
-part-run-end-4 c = search (needs, c .before .before .before .before .before .before .before .before .lesser5 .ensures)
+part-run-end-4 c = search (needs, c .before .before .before .before .before .before .before .before .bytes-of4 .ensures)
 
 sub-run-5 : tie.Need-sub-run-5
 sub-run-5 c = search needs
@@ -66,7 +60,7 @@ part-run-start-5 : tie.Need-part-run-start-5
 part-run-start-5 c = search needs
 
 part-run-end-5 : tie.Need-part-run-end-5
-part-run-end-5 c = search (needs, c .before .before .before .before .before .before .before .before .lesser6 .ensures)
+part-run-end-5 c = search (needs, c .before .before .before .before .before .before .before .before .lesser .ensures)
 
 run-requires : tie.Need-run-requires
 run-requires c κs = search needs
@@ -105,13 +99,11 @@ pub play-spec : {M : Type 1} → statement M
 play-spec =
     tie.close
     (tie.spec
+    bytes-of-requires
+    bytes-of-requires-2
+    bytes-of-requires-3
+    bytes-of-requires-4
     lesser-requires
-    mul-size
-    lesser-requires-2
-    lesser-requires-3
-    lesser-requires-4
-    lesser-requires-5
-    lesser-requires-6
     sub-run
     part-run-start
     part-run-end
