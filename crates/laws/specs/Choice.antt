@@ -183,6 +183,13 @@ unfolding ask
 ask-fails n true e = true-false e
 ask-fails n false e = refl
 
+-- the same of a question before others: its no is the answer, and its yes leaves the answer to them
+pub asks-no : (n : ℕ) (b : Bool) (r : ℕ) → (n ≡ 0 → ⊥) → b ≡ false → n ≡ andThen (ask n b) r
+asks-no n b r h e = sym (ap (λ (q : ℕ). andThen q r) (ask-fails n b e) ∙ andThen-first n r h)
+
+pub asks-yes : (n : ℕ) (b : Bool) (r : ℕ) → b ≡ true → andThen (ask n b) r ≡ r
+asks-yes n b r e = andThen-done (ask n b) r (ask-holds n b e)
+
 -- the two cases of a test: a fact about the chosen value follows from one about each
 pub by-leb {ℓ κ} : {A : Type ℓ} (P : A → Type κ) (m n : ℕ) (x y : A) → (m ≤ n → P x) → (n < m → P y) → P (cond (leb m n) x y)
 by-leb P m n x y f g = go (leb m n) refl
@@ -259,6 +266,10 @@ not-so false h = refl
 pub not-true : (b : Bool) → not b ≡ true → b ≡ false
 not-true true e = false-true e
 not-true false e = refl
+
+pub not-false : (b : Bool) → not b ≡ false → b ≡ true
+not-false true e = refl
+not-false false e = true-false e
 
 -- an option that is given where a test holds
 pub cond-some {ℓ} : {A : Type ℓ} (b : Bool) (x y : A) → cond b (some x) none ≡ some y → (b ≡ true) × (x ≡ y)

@@ -8,7 +8,7 @@ use native.Mathlib.Omega.{arith}
 use lib.ListN.{length, take, drop, getD, set, replicate, length-append, length-take, length-drop, length-replicate, replicate-append-replicate, take-append-drop, List·getD-append, List·getD-map, length-map}
 use lib.Seq.{length-take-le, take-all, take-at, drop-at, take-add, take-append-le, take-append-add, drop-drop, take-take, drop-cons, set-at, getD-take, getD-drop}
 use Rattle.laws.specs.Choice.{split-le}
-use Rattle.laws.specs.Part.{take-step, take-min, length-part, drop-take, take-replicate}
+use Rattle.laws.specs.Part.{take-step, take-min, length-part, drop-take, drop-end, take-replicate}
 
 -- d with the elements of s from the place `at` on
 unfoldable pub splice {ℓ} : {A : Type ℓ} → List A → ℕ → List A → List A
@@ -120,6 +120,13 @@ module _ {ℓ} {A : Type ℓ} where
     where
       long : length (take t f) ≡ t
       long = length-take-le t f h
+
+  -- a run over the whole of a memory
+  pub splice-whole : (d s : List A) → length s ≡ length d → splice d 0 s ≡ s
+  splice-whole d s h =
+      splice-is d 0 s
+      ∙ ap (λ (l : List A). s ++ l) (drop-end d (0 + length s) (omega arith))
+      ∙ append-nil s
 
   -- a second run over the same places covers the first
   pub splice-over : (d : List A) (at : ℕ) (s t : List A) → at + length s ≤ length d → length s ≤ length t → splice (splice d at s) at t ≡ splice d at t
@@ -247,6 +254,13 @@ module _ {ℓ} {A : Type ℓ} where
       (λ h.
       clipped-past (clipped d at s) (at + length s) t (omega (arith, length-clipped d at s))
       ∙ ap (splice d at) (sym (take-append-le (length d - at) s t (omega arith))))
+
+  -- the same from the front on, each run at the place where the last one ended, and a run over the whole of a memory
+  pub clipped-next : (d x y s t : List A) (at : ℕ) → at ≡ length s → x ≡ clipped d 0 s → y ≡ clipped x at t → y ≡ clipped d 0 (s ++ t)
+  clipped-next d x y s t at h e f = f ∙ (λ i. clipped (e i) ((h ∙ sym (zero-add (length s))) i) t) ∙ clipped-then d 0 s t
+
+  pub clipped-whole : (d s : List A) → length s ≡ length d → clipped d 0 s ≡ s
+  clipped-whole d s h = clipped-fits d 0 s (omega arith) ∙ splice-whole d s h
 
   -- the end of a loop that copies, fills, or moves to the front, at the lesser of what there is and what there is room for
   pub copy-end : (x d : List A) (at : ℕ) (s : List A) (j : ℕ) → x ≡ splice d at (take j s) → j ≡ min (length d - at) (length s) → x ≡ clipped d at s
