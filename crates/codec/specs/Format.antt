@@ -14,7 +14,7 @@ use Rattle.laws.specs.Cut.{cut, flat, lengths, length-cut, flat-append, lengths
 use Rattle.range.specs.Form as Form
 pub use Rattle.range.specs.Form.{MostEntries, MostEntryLength}
 use Rattle.range.specs.Form.{Entry, BlockSize, LengthWidth, okLength, blocksAllAt, parseAllAt}
-use Rattle.range.specs.Bytes.{ok-low, ok-high, ok-yes}
+use Rattle.range.specs.Lengths.{ok-low, ok-high, ok-yes}
 use Rattle.range.specs.Blocks.{format-sizes, blocks-some, length-encodeAt}
 use Rattle.range.specs.Ranges.{parseAll-none, parseAll-parses, parseAll-entries, parseAll-append, encodeAll-one, parseAll-encodeAll, allEntries-count, allEntries-bytes, allEntries-each}
 use Rattle.codec.specs.Codec.{JournalRange, SizedBlocks, EntriesFit, Codec}

@@ -5,7 +5,7 @@ use mathlib.Core.Bool.{cond}
 use mathlib.Core.List.{List, [], _∷_, _++_}
 use lib.Dec.{eqb}
 use lib.ListN.{length, take, drop}
-use Rattle.laws.specs.Digits.{digits}
+use Rattle.laws.specs.LowFirst.{lowFirst, eachLow}
 use Rattle.layout.specs.declared.Geometry.{Geometry}
 use Rattle.superblock.specs.declared.Superblock.{Superblock}
 use Rattle.superblock.specs.declared.MaybeSuperblock.{MaybeSuperblock}
@@ -25,25 +25,14 @@ use Rattle.machine.specs.declared.Kind.the-variants as kind
 use Rattle.machine.specs.declared.Machine.{Machine}
 use Rattle.machine.specs.Lent.{Lent}
 
--- a number is eight bytes, a length two, the low one first
-unfoldable pub numberBytes : ℕ → List ℕ
-numberBytes n = digits 256 8 n
-
-unfoldable pub lengthBytes : ℕ → List ℕ
-lengthBytes n = digits 256 2 n
-
-unfoldable pub lengthsBytes : List ℕ → List ℕ
-lengthsBytes [] = []
-lengthsBytes (n ∷ ns) = lengthBytes n ++ lengthsBytes ns
-
--- a superblock is its five numbers
+-- a superblock is its five numbers, eight bytes each, low byte first
 unfoldable pub superblockBytes : Superblock → List ℕ
 superblockBytes s =
-    numberBytes (s .counter)
-    ++ numberBytes (s .journalStart)
-    ++ numberBytes (s .journalLen)
-    ++ numberBytes (s .indirectionTableLoc .addr)
-    ++ numberBytes (s .indirectionTableLoc .len)
+    lowFirst 8 (s .counter)
+    ++ lowFirst 8 (s .journalStart)
+    ++ lowFirst 8 (s .journalLen)
+    ++ lowFirst 8 (s .indirectionTableLoc .addr)
+    ++ lowFirst 8 (s .indirectionTableLoc .len)
 
 unfoldable pub slotBytes : MaybeSuperblock → List ℕ
 slotBytes (slot.Holds s) = superblockBytes s
@@ -75,7 +64,7 @@ loadedBytes g s pieces =
 
 -- the entries behind those that are taken, up to one: their lengths, then their bytes; nothing where they aren't held
 unfoldable pub heldAs : Held → List ℕ → List ℕ → List ℕ
-heldAs (held.Bytes n) lens bytes = lengthsBytes lens ++ take n bytes
+heldAs (held.Bytes n) lens bytes = eachLow 2 lens ++ take n bytes
 heldAs held.Nothing lens bytes = []
 
 unfoldable pub heldBytes : List ℕ → List ℕ → Count → ℕ → List ℕ

@@ -13,7 +13,7 @@ use Rattle.laws.specs.Choice.{also, also-left, also-right, also-both}
 use Rattle.laws.specs.Fold.{sum, every, sum-append, sum-bound, every-append, every-at}
 use Rattle.laws.specs.Part.{drop-take, length-part}
 use Rattle.range.specs.Form.{MostEntryLength, okLength}
-use Rattle.range.specs.Bytes.{ok-high}
+use Rattle.range.specs.Lengths.{ok-high}
 use Rattle.lengths.specs.declared.Held.{Held}
 use Rattle.lengths.specs.declared.Held.the-variants as held
 use Rattle.lengths.specs.Held.{heldOk, held-facts, facts-held, answer, heldOf, answer-bytes, answer-nothing}

@@ -9,7 +9,8 @@ use lib.ListN.{length, getD, length-append, length-replicate}
 use Rattle.laws.specs.Fold.{sum, every-at, sum-bound}
 use Rattle.laws.specs.Cut.{lengths, length-lengths, length-flat}
 use Rattle.range.specs.Form.{Entry, BlockSize, MostEntries, MostEntryLength, LengthWidth, used, blocksFor, usedAt, blocksAt, encodeAt, okLength, Good}
-use Rattle.range.specs.Bytes.{ok-high, length-lowFirst, length-lengthBytes}
+use Rattle.laws.specs.LowFirst.{length-lowFirst, length-eachLow}
+use Rattle.range.specs.Lengths.{ok-high}
 
 -- what a width and a greatest length keep to: every length fits in w bytes, and the block count of the largest range in two
 pub record Sizes (w most : ℕ) : Type 0 where
@@ -39,7 +40,7 @@ blocks-some w es = omega arith
 pub length-encodeAt : (w : ℕ) (es : List Entry) → length (encodeAt w es) ≡ blocksAt w es * BlockSize
 unfolding encodeAt
 length-encodeAt w es =
-    simp (length-append, length-lowFirst, length-lengthBytes, length-lengths, length-flat, length-replicate {A = ℕ})
+    simp (length-append, length-lowFirst, length-eachLow, length-lengths, length-flat, length-replicate {A = ℕ})
     (omega (arith, blocks-hold (usedAt w es)))
 
 -- what the entries of one range use at most

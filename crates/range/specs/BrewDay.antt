@@ -6,11 +6,12 @@ use lib.ListN.{length, replicate}
 use Rattle.laws.specs.Fold.{sum}
 use Rattle.laws.specs.Digits.{digits}
 use Rattle.laws.specs.Cut.{flat, lengths, length-lengths}
-use Rattle.range.specs.Form.{Entry, LengthWidth, lengthBytes, used, blocksFor, encodeAt, encode, blocks}
+use Rattle.laws.specs.LowFirst.{eachLow}
+use Rattle.range.specs.Form.{Entry, LengthWidth, used, blocksFor, encodeAt, encode, blocks}
 
 -- one entry, the byte 65 (hexadecimal 41)
 pub one-entry : encode ((65 ∷ []) ∷ []) ≡ 1 ∷ 0 ∷ 1 ∷ 0 ∷ 1 ∷ 65 ∷ replicate 4090 0
-unfolding encodeAt digits lengthBytes flat lengths sum
+unfolding encodeAt digits eachLow flat lengths sum
 one-entry = refl
 
 -- the blocks follow from the lengths

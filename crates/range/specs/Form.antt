@@ -11,7 +11,7 @@ use lib.Dec.{leb, eqb}
 use Rattle.laws.specs.Choice.{also}
 use Rattle.laws.specs.Fold.{sum, every}
 use Rattle.laws.specs.Cut.{cut, flat, lengths}
-use Rattle.laws.specs.Digits.{digits, fromDigits}
+use Rattle.laws.specs.LowFirst.{lowFirst, fromLow, eachLow, eachFromLow, isZero}
 pub use Rattle.layout.specs.Geometry.{BlockSize}
 
 -- an entry is a run of bytes
@@ -31,22 +31,6 @@ LengthWidth = 1
 abbrev pub HeadSize : ℕ
 HeadSize = 4
 
--- a number in w bytes, low byte first, and the number that bytes make
-abbrev pub lowFirst : ℕ → ℕ → List ℕ
-lowFirst w n = digits 256 w n
-
-abbrev pub fromLow : List ℕ → ℕ
-fromLow xs = fromDigits 256 xs
-
--- lengths in w bytes each, and the first e lengths that bytes make
-unfoldable pub lengthBytes : ℕ → List ℕ → List ℕ
-lengthBytes w [] = []
-lengthBytes w (n ∷ ns) = lowFirst w n ++ lengthBytes w ns
-
-unfoldable pub lengthsFrom : ℕ → ℕ → List ℕ → List ℕ
-lengthsFrom w zero xs = []
-lengthsFrom w (suc e) xs = fromLow (take w xs) ∷ lengthsFrom w e (drop w xs)
-
 -- the bytes that the head, n lengths and t bytes of bodies take, and the fewest blocks that hold u bytes
 abbrev pub used : ℕ → ℕ → ℕ → ℕ
 used w n t = HeadSize + n * w + t
@@ -65,7 +49,7 @@ unfoldable pub encodeAt : ℕ → List Entry → List ℕ
 encodeAt w es =
     lowFirst 2 (blocksAt w es)
     ++ lowFirst 2 (length es)
-    ++ lengthBytes w (lengths es)
+    ++ eachLow w (lengths es)
     ++ flat es
     ++ replicate (blocksAt w es * BlockSize - usedAt w es) 0
 
@@ -77,7 +61,7 @@ unfoldable pub entryCount : List ℕ → ℕ
 entryCount xs = fromLow (take 2 (drop 2 xs))
 
 unfoldable pub lengthsAt : ℕ → List ℕ → List ℕ
-lengthsAt w xs = lengthsFrom w (entryCount xs) (drop HeadSize xs)
+lengthsAt w xs = eachFromLow w (entryCount xs) (drop HeadSize xs)
 
 abbrev pub usedIn : ℕ → List ℕ → ℕ
 usedIn w xs = used w (entryCount xs) (sum (lengthsAt w xs))
@@ -85,12 +69,9 @@ usedIn w xs = used w (entryCount xs) (sum (lengthsAt w xs))
 unfoldable pub entriesAt : ℕ → List ℕ → List Entry
 entriesAt w xs = cut (lengthsAt w xs) (drop (HeadSize + entryCount xs * w) xs)
 
--- a length within the limits, and a byte of the padding
+-- a length within the limits
 unfoldable pub okLength : ℕ → ℕ → Bool
 okLength most n = also (leb 1 n) (leb n most)
-
-unfoldable pub isZero : ℕ → Bool
-isZero n = eqb n 0
 
 -- the bytes are a range: they are the blocks that they count; from 1 to 1,024 entries, each of an allowed length; no block more than is
 -- needed; zeros behind the last body

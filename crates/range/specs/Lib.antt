@@ -1,5 +1,5 @@
 pub mod Form
-pub mod Bytes
+pub mod Lengths
 pub mod Blocks
 pub mod Shape
 pub mod Round

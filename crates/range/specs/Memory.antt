@@ -12,7 +12,8 @@ use Rattle.laws.specs.Part.{drop-take, length-part}
 use Rattle.laws.specs.Splice.{splice, take-splice, take-splice-through, part-splice}
 use Rattle.laws.specs.Fold.{sum, every, sum-append}
 use Rattle.laws.specs.Cut.{cut, flat, lengths, length-flat, length-cut, lengths-cut, flat-cut, cut-flat, cut-append, cut-enough, cut-take, cut-drop}
-use Rattle.range.specs.Form.{Entry, BlockSize, MostEntries, HeadSize, lengthBytes, used, blocksFor, usedAt, blocksAt, encodeAt, okLength, Good}
+use Rattle.laws.specs.LowFirst.{eachLow}
+use Rattle.range.specs.Form.{Entry, BlockSize, MostEntries, HeadSize, used, blocksFor, usedAt, blocksAt, encodeAt, okLength, Good}
 use Rattle.range.specs.Runs.{head, encode-is}
 
 -- the n entries that bytes and lengths hold
@@ -27,7 +28,7 @@ total lens n = sum (take n lens)
 abbrev pub rangeFrom : ℕ → List ℕ → List ℕ → ℕ → ℕ → List ℕ
 rangeFrom w bytes lens n t =
     head (blocksFor (used w n t)) n
-    ++ lengthBytes w (take n lens)
+    ++ eachLow w (take n lens)
     ++ take t bytes
     ++ replicate (blocksFor (used w n t) * BlockSize - used w n t) 0
 
@@ -167,7 +168,7 @@ module _ (w most : ℕ) (bytes lens : List ℕ) (n : ℕ) (hn : n ≤ length len
   rangeFrom-view =
       (λ i.
       head (sym blocksAt-view i) (sym (length-view bytes lens n hn) i)
-      ++ lengthBytes w (sym (lengths-view bytes lens n ht) i)
+      ++ eachLow w (sym (lengths-view bytes lens n ht) i)
       ++ sym (flat-view bytes lens n) i
       ++ replicate {A = ℕ} (sym blocksAt-view i * BlockSize - sym usedAt-view i) 0)
       ∙ sym (encode-is w (view bytes lens n))

@@ -16,8 +16,9 @@ use Rattle.laws.specs.Fold.{sum, every, every-append, every-take, every-drop, e
 use Rattle.laws.specs.Part.{length-part, part-then}
 use Rattle.laws.specs.Digits.{isDigit}
 use Rattle.laws.specs.Cut.{cut, flat, lengths, length-lengths, length-flat, lengths-cut, flat-cut, cut-flat}
-use Rattle.range.specs.Form.{Entry, BlockSize, HeadSize, lowFirst, fromLow, lengthBytes, lengthsFrom, blocksFor, usedAt, blocksAt, encodeAt, blockCount, entryCount, lengthsAt, usedIn, entriesAt, isZero, parsesAt, parseAt, Good}
-use Rattle.range.specs.Bytes.{isByte, Bytes, length-lowFirst, fromLow-lowFirst, lowFirst-fromLow, lowFirst-bytes, length-lengthBytes, lengthBytes-bytes, lengthsFrom-lengthBytes, lengthBytes-lengthsFrom}
+use Rattle.laws.specs.LowFirst.{lowFirst, fromLow, eachLow, eachFromLow, isByte, Bytes, isZero, zeros-are, length-lowFirst, fromLow-lowFirst, lowFirst-fromLow, lowFirst-bytes, length-eachLow, eachLow-bytes, eachLow-eachFromLow}
+use Rattle.range.specs.Form.{Entry, BlockSize, HeadSize, blocksFor, usedAt, blocksAt, encodeAt, blockCount, entryCount, lengthsAt, usedIn, entriesAt, parsesAt, parseAt, Good}
+use Rattle.range.specs.Lengths.{lengths-written}
 use Rattle.range.specs.Blocks.{Sizes, length-encodeAt, good-blocks, good-count}
 use Rattle.range.specs.Shape.{Shape, shape-of, shape-facts, shape-yes, length-entriesAt}
 
@@ -28,27 +29,27 @@ padding w es = replicate (blocksAt w es * BlockSize - usedAt w es) 0
 -- an encoded range, run by run from the front
 module _ (w : ℕ) (es : List Entry) where
   pub encode-runs : encodeAt w es
-      ≡ lowFirst 2 (blocksAt w es) ++ (lowFirst 2 (length es) ++ (lengthBytes w (lengths es) ++ (flat es ++ padding w es)))
+      ≡ lowFirst 2 (blocksAt w es) ++ (lowFirst 2 (length es) ++ (eachLow w (lengths es) ++ (flat es ++ padding w es)))
   unfolding encodeAt
   encode-runs = simp append-assoc
 
-  after-blocks : drop 2 (encodeAt w es) ≡ lowFirst 2 (length es) ++ (lengthBytes w (lengths es) ++ (flat es ++ padding w es))
+  after-blocks : drop 2 (encodeAt w es) ≡ lowFirst 2 (length es) ++ (eachLow w (lengths es) ++ (flat es ++ padding w es))
   after-blocks =
       ap (drop 2) encode-runs
-      ∙ drop-at (lowFirst 2 (blocksAt w es)) (lowFirst 2 (length es) ++ (lengthBytes w (lengths es) ++ (flat es ++ padding w es))) 2 (length-lowFirst 2 (blocksAt w es))
+      ∙ drop-at (lowFirst 2 (blocksAt w es)) (lowFirst 2 (length es) ++ (eachLow w (lengths es) ++ (flat es ++ padding w es))) 2 (length-lowFirst 2 (blocksAt w es))
 
-  pub after-head : drop HeadSize (encodeAt w es) ≡ lengthBytes w (lengths es) ++ (flat es ++ padding w es)
+  pub after-head : drop HeadSize (encodeAt w es) ≡ eachLow w (lengths es) ++ (flat es ++ padding w es)
   after-head =
       sym (drop-drop 2 2 (encodeAt w es))
       ∙ ap (drop 2) after-blocks
-      ∙ drop-at (lowFirst 2 (length es)) (lengthBytes w (lengths es) ++ (flat es ++ padding w es)) 2 (length-lowFirst 2 (length es))
+      ∙ drop-at (lowFirst 2 (length es)) (eachLow w (lengths es) ++ (flat es ++ padding w es)) 2 (length-lowFirst 2 (length es))
 
   pub after-lengths : drop (HeadSize + length es * w) (encodeAt w es) ≡ flat es ++ padding w es
   after-lengths =
       sym (drop-drop (length es * w) HeadSize (encodeAt w es))
       ∙ ap (drop (length es * w)) after-head
-      ∙ drop-at (lengthBytes w (lengths es)) (flat es ++ padding w es) (length es * w)
-      (length-lengthBytes w (lengths es) ∙ ap (λ (n : ℕ). n * w) (length-lengths es))
+      ∙ drop-at (eachLow w (lengths es)) (flat es ++ padding w es) (length es * w)
+      (length-eachLow w (lengths es) ∙ ap (λ (n : ℕ). n * w) (length-lengths es))
 
   pub after-bodies : drop (usedAt w es) (encodeAt w es) ≡ padding w es
   after-bodies =
@@ -61,9 +62,9 @@ pub encode-bytes : (w : ℕ) (es : List Entry) → Bytes (flat es) → Bytes (en
 unfolding isDigit
 encode-bytes w es b =
     ap (every isByte) (encode-runs w es)
-    ∙ joined (lowFirst 2 (blocksAt w es)) (lowFirst 2 (length es) ++ (lengthBytes w (lengths es) ++ (flat es ++ padding w es))) (lowFirst-bytes 2 (blocksAt w es))
-    (joined (lowFirst 2 (length es)) (lengthBytes w (lengths es) ++ (flat es ++ padding w es)) (lowFirst-bytes 2 (length es))
-    (joined (lengthBytes w (lengths es)) (flat es ++ padding w es) (lengthBytes-bytes w (lengths es))
+    ∙ joined (lowFirst 2 (blocksAt w es)) (lowFirst 2 (length es) ++ (eachLow w (lengths es) ++ (flat es ++ padding w es))) (lowFirst-bytes 2 (blocksAt w es))
+    (joined (lowFirst 2 (length es)) (eachLow w (lengths es) ++ (flat es ++ padding w es)) (lowFirst-bytes 2 (length es))
+    (joined (eachLow w (lengths es)) (flat es ++ padding w es) (eachLow-bytes w (lengths es))
     (joined (flat es) (padding w es) b (every-replicate isByte (blocksAt w es * BlockSize - usedAt w es) 0 refl))))
   where
     joined : (xs ys : List ℕ) → Bytes xs → Bytes ys → Bytes (xs ++ ys)
@@ -75,21 +76,21 @@ module _ (w most : ℕ) (es : List Entry) (s : Sizes w most) (g : Good most es) 
   unfolding blockCount
   blockCount-encode =
       ap (λ (l : List ℕ). fromLow (take 2 l)) (encode-runs w es)
-      ∙ ap fromLow (take-at (lowFirst 2 (blocksAt w es)) (lowFirst 2 (length es) ++ (lengthBytes w (lengths es) ++ (flat es ++ padding w es))) 2 (length-lowFirst 2 (blocksAt w es)))
+      ∙ ap fromLow (take-at (lowFirst 2 (blocksAt w es)) (lowFirst 2 (length es) ++ (eachLow w (lengths es) ++ (flat es ++ padding w es))) 2 (length-lowFirst 2 (blocksAt w es)))
       ∙ fromLow-lowFirst 2 (blocksAt w es) (good-blocks w most es s g)
 
   pub entryCount-encode : entryCount (encodeAt w es) ≡ length es
   unfolding entryCount
   entryCount-encode =
       ap (λ (l : List ℕ). fromLow (take 2 l)) (after-blocks w es)
-      ∙ ap fromLow (take-at (lowFirst 2 (length es)) (lengthBytes w (lengths es) ++ (flat es ++ padding w es)) 2 (length-lowFirst 2 (length es)))
+      ∙ ap fromLow (take-at (lowFirst 2 (length es)) (eachLow w (lengths es) ++ (flat es ++ padding w es)) 2 (length-lowFirst 2 (length es)))
       ∙ fromLow-lowFirst 2 (length es) (good-count most es g)
 
   pub lengthsAt-encode : lengthsAt w (encodeAt w es) ≡ lengths es
   unfolding lengthsAt
   lengthsAt-encode =
-      (λ i. lengthsFrom w ((entryCount-encode ∙ sym (length-lengths es)) i) (after-head w es i))
-      ∙ lengthsFrom-lengthBytes w most (lengths es) (flat es ++ padding w es) (s .length-fits) (g .each)
+      (λ i. eachFromLow w ((entryCount-encode ∙ sym (length-lengths es)) i) (after-head w es i))
+      ∙ lengths-written w most (lengths es) (flat es ++ padding w es) (s .length-fits) (g .each)
 
   pub entriesAt-encode : entriesAt w (encodeAt w es) ≡ es
   unfolding entriesAt
@@ -120,13 +121,6 @@ module _ (w most : ℕ) (es : List Entry) (s : Sizes w most) (g : Good most es) 
   pub parse-encode : parseAt w most (encodeAt w es) ≡ some es
   unfolding parseAt
   parse-encode = rw parses-encode (ap {B = Option (List Entry)} some entriesAt-encode)
-
--- zeros are a run of the number 0
-pub zeros-are : (xs : List ℕ) → every isZero xs ≡ true → xs ≡ replicate (length xs) 0
-unfolding every isZero
-zeros-are [] e = refl
-zeros-are (x ∷ xs) e =
-    λ i. eqb-true x 0 (also-left (eqb x 0) (every isZero xs) e) i ∷ zeros-are xs (also-right (eqb x 0) (every isZero xs) e) i
 
 -- the entries of bytes that have the shape: their lengths are those that the bytes give, and one range can hold them
 module _ (w most : ℕ) (xs : List ℕ) (s : Shape w most xs) where
@@ -163,11 +157,11 @@ module _ (w most : ℕ) (xs : List ℕ) (s : Shape w most xs) where
         ap (lowFirst 2) (length-entriesAt w xs)
         ∙ rw l at (lowFirst-fromLow (take 2 (drop 2 xs)) (every-take isByte 2 (drop 2 xs) (every-drop isByte 2 xs b)))
 
-    lengths-again : lengthBytes w (lengths (entriesAt w xs)) ≡ take (entryCount xs * w) (drop HeadSize xs)
+    lengths-again : eachLow w (lengths (entriesAt w xs)) ≡ take (entryCount xs * w) (drop HeadSize xs)
     unfolding lengthsAt
     lengths-again =
-        ap (lengthBytes w) lengths-entriesAt
-        ∙ lengthBytes-lengthsFrom w (entryCount xs) (drop HeadSize xs) (every-drop isByte HeadSize xs b) (simp length-drop (omega arith))
+        ap (eachLow w) lengths-entriesAt
+        ∙ eachLow-eachFromLow w (entryCount xs) (drop HeadSize xs) (every-drop isByte HeadSize xs b) (simp length-drop (omega arith))
 
     bodies-again : flat (entriesAt w xs) ≡ take (sum (lengthsAt w xs)) (drop (HeadSize + entryCount xs * w) xs)
     unfolding entriesAt

@@ -11,8 +11,9 @@ use borrow.Author.Tests.{eq-eqb, le-leb, eqb-true, leb-true}
 use Rattle.laws.specs.Choice.{also-left, also-right, also-both, not-so}
 use Rattle.laws.specs.Fold.{sum, every, sum-split, sum-take-step}
 use Rattle.laws.specs.Cut.{length-cut, cut-at}
-use Rattle.range.specs.Form.{BlockSize, MostEntries, HeadSize, blocksFor, blockCount, entryCount, lengthsAt, usedIn, entriesAt, okLength, isZero, parsesAt}
-use Rattle.range.specs.Bytes.{length-lengthsFrom, lengthsFrom-one}
+use Rattle.laws.specs.LowFirst.{isZero, length-eachFromLow}
+use Rattle.range.specs.Form.{BlockSize, MostEntries, HeadSize, blocksFor, blockCount, entryCount, lengthsAt, usedIn, entriesAt, okLength, parsesAt}
+use Rattle.range.specs.Lengths.{eachFromLow-one}
 
 pub record Shape (w most : ℕ) (xs : List ℕ) : Type 0 where
   pub whole : length xs ≡ blockCount xs * BlockSize
@@ -74,7 +75,7 @@ parses-part w most xs h = sym (not-so (parsesAt w most xs) (λ p. h (shape-facts
 module _ (w : ℕ) (xs : List ℕ) where
   pub length-lengthsAt : length (lengthsAt w xs) ≡ entryCount xs
   unfolding lengthsAt
-  length-lengthsAt = length-lengthsFrom w (entryCount xs) (drop HeadSize xs)
+  length-lengthsAt = length-eachFromLow w (entryCount xs) (drop HeadSize xs)
 
   pub length-entriesAt : length (entriesAt w xs) ≡ entryCount xs
   unfolding entriesAt
@@ -96,7 +97,7 @@ module _ (w : ℕ) (xs : List ℕ) where
 -- at one byte each, the lengths are a part of the bytes
 pub lengthsAt-one : (xs : List ℕ) → HeadSize + entryCount xs ≤ length xs → lengthsAt 1 xs ≡ take (entryCount xs) (drop HeadSize xs)
 unfolding lengthsAt
-lengthsAt-one xs h = lengthsFrom-one (entryCount xs) (drop HeadSize xs) (simp length-drop (omega arith))
+lengthsAt-one xs h = eachFromLow-one (entryCount xs) (drop HeadSize xs) (simp length-drop (omega arith))
 
 pub lengthsAt-one-take : (xs : List ℕ) (i : ℕ) → HeadSize + entryCount xs ≤ length xs → i ≤ entryCount xs → take i (lengthsAt 1 xs) ≡ take i (drop HeadSize xs)
 lengthsAt-one-take xs i h k = ap (take i) (lengthsAt-one xs h) ∙ take-take i (entryCount xs) (drop HeadSize xs) k

@@ -12,7 +12,8 @@ use Rattle.laws.specs.Choice.{also}
 use Rattle.laws.specs.Part.{drop-end, part-of-front}
 use Rattle.laws.specs.Fold.{every}
 use Rattle.laws.specs.Cut.{flat}
-use Rattle.range.specs.Form.{BlockSize, LengthWidth, HeadSize, fromLow, blockCount, entryCount, lengthsAt, entriesAt, parsesAt, rangeSize, rangesWithin, ranges, allParseAt, allEntriesAt}
+use Rattle.laws.specs.LowFirst.{fromLow}
+use Rattle.range.specs.Form.{BlockSize, LengthWidth, HeadSize, blockCount, entryCount, lengthsAt, entriesAt, parsesAt, rangeSize, rangesWithin, ranges, allParseAt, allEntriesAt}
 use Rattle.range.specs.Shape.{parses-part, lengthsAt-one}
 use Rattle.range.specs.Ranges.{ranges-step}
 

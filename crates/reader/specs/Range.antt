@@ -11,7 +11,8 @@ use borrow.Author.Tests.{le-leb, lt-leb, eq-eqb, leb-true, eqb-true}
 use Rattle.laws.specs.Choice.{by-leb, also, ask, ask-yes, also-left, also-right, also-both}
 use Rattle.laws.specs.Fold.{sum, sum-bound}
 use Rattle.range.specs.Form.{MostEntries, MostEntryLength, LengthWidth, HeadSize, used, blocksFor, blockCount, entryCount, lengthsAt, entries, parses}
-use Rattle.range.specs.Bytes.{Bytes, bytes-at, blockCount-is, entryCount-is}
+use Rattle.laws.specs.LowFirst.{Bytes, bytes-at}
+use Rattle.range.specs.Lengths.{blockCount-small, entryCount-small}
 use Rattle.range.specs.Shape.{Shape, shape-facts, lengthsAt-one, lengthsAt-one-at, length-lengthsAt, length-entriesAt}
 use Rattle.reader.specs.declared.answer.Contents.{Contents}
 use Rattle.reader.specs.declared.answer.Scanned.the-variants as scan
@@ -66,10 +67,6 @@ pub contents-short : (xs : List ℕ) → length xs < HeadSize + entryCount xs * 
 unfolding contentsOf
 contents-short xs h = simp (lt-leb (HeadSize + entryCount xs * LengthWidth) (length xs) h)
 
--- two bytes make a number below 65,536
-count-small : (xs : List ℕ) (i : ℕ) → Bytes xs → i + 1 < length xs → getD xs i 0 + getD xs (i + 1) 0 * 256 < 65536
-count-small xs i b h = omega (arith, bytes-at xs i b (omega arith), bytes-at xs (i + 1) b h)
-
 -- any contents are small, and head and lengths are there or nothing is said
 module _ (xs : List ℕ) where
   pub contents-small : Bytes xs → Small (contentsOf xs)
@@ -79,8 +76,8 @@ module _ (xs : List ℕ) where
       (λ l.
       let n : length (lengthsAt LengthWidth xs) ≡ entryCount xs = length-lengthsAt LengthWidth xs in
       record {
-        few-blocks = omega (arith, blockCount-is xs, count-small xs 0 bs (omega arith));
-        few-entries = omega (arith, entryCount-is xs, count-small xs 2 bs (omega arith));
+        few-blocks = blockCount-small xs bs;
+        few-entries = entryCount-small xs bs;
         few-bytes =
             rw n at
             (sum-bound 255 (lengthsAt LengthWidth xs)

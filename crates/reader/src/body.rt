@@ -1,7 +1,6 @@
 // One entry of a range: its body is a part of the lent bytes.
 use super::answer::Counted;
 use super::head::entry_count;
-use super::head::wide;
 use super::parse::count;
 use super::walk::total;
 use range::HEAD_SIZE;
@@ -23,6 +22,13 @@ fn body_start(s: &[u8], i: usize) -> usize
     let end = HEAD_SIZE + i;
     let before = total(&s[HEAD_SIZE..end]) as usize;
     HEAD_SIZE + entries + before
+}
+
+// A byte as a size.
+fn wide(x: u8) -> usize
+    ensures { λ r. ⌜ (r ≡ x) × (r < 256) ⌝ }
+{
+    x as usize
 }
 
 // Where a body of the given length ends: a place of a slice has 63 bits.

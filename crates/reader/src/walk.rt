@@ -1,11 +1,11 @@
-// Walks over a run of bytes: the lengths are summed and looked at, the padding is looked at. A loop keeps a flag or a sum and has no way
+// Walks over a run of bytes: the lengths are summed and looked at. A loop keeps a flag or a sum and has no way
 // out, so that the compiler can look at many bytes at once.
 ghost use mathlib.Core.Path.{_≡_};
 ghost use Prim.Native.Nat.{_*_, _≤_, _<_};
 ghost use lib.ListN.{length};
 ghost use Rattle.laws.specs.Choice.{also};
 ghost use Rattle.laws.specs.Fold.{sum, every};
-ghost use Rattle.range.specs.Form.{MostEntryLength, okLength, isZero};
+ghost use Rattle.range.specs.Form.{MostEntryLength, okLength};
 
 fn wide(x: u8) -> u32
     ensures { λ r. ⌜ (r ≡ x) × (r < 256) ⌝ }
@@ -43,26 +43,6 @@ pub(crate) fn lengths_ok(lengths: &[u8]) -> bool
     let mut i = 0;
     while i < lengths.len() {
         ok = and_some(ok, lengths[i]);
-        i += 1;
-    }
-    ok
-}
-
-fn and_zero(ok: bool, byte: u8) -> bool
-    ensures { λ r. ⌜ r ≡ also ok (isZero byte) ⌝ }
-{
-    let zero = byte == 0;
-    ok & zero
-}
-
-// Is every byte zero?
-pub(crate) fn zeros(s: &[u8]) -> bool
-    ensures { λ r. ⌜ r ≡ every isZero (now (s .entry)) ⌝ }
-{
-    let mut ok = true;
-    let mut i = 0;
-    while i < s.len() {
-        ok = and_zero(ok, s[i]);
         i += 1;
     }
     ok

@@ -6,9 +6,11 @@
 //   move_bytes, move_lengths                  a part moved to the front
 //   same_bytes, same_lengths                  are two runs equal?
 //   same_bytes_at, same_lengths_at            is the front of a run what another has from a place on?
+//   zeros                                     is every byte of a run zero?
 // Every function is total: what does not fit is cut, and a part that isn't there is empty. A loop that writes stores one element a turn
 // and does nothing else.
 mod around;
+mod blank;
 mod compare;
 mod front;
 mod lengths;
@@ -18,6 +20,7 @@ mod run;
 pub use around::fill_around;
 pub use around::narrow_around;
 pub use around::write_bytes_around;
+pub use blank::zeros;
 pub use compare::same_bytes;
 pub use compare::same_bytes_at;
 pub use compare::same_lengths;

@@ -15,7 +15,8 @@ use Rattle.laws.specs.Digits.{digits}
 use Rattle.laws.specs.Ring.{wrap, wrap-below}
 use Rattle.laws.specs.Around.{around, spliceAround, around-here, around-run}
 use Rattle.layout.specs.Geometry.{BlockSize, MostBlocks}
-use Rattle.range.specs.Form.{MostEntries, MostEntryLength, LengthWidth, HeadSize, lengthBytes, used, blocksFor, blocks, encode, parse}
+use Rattle.laws.specs.LowFirst.{eachLow}
+use Rattle.range.specs.Form.{MostEntries, MostEntryLength, LengthWidth, HeadSize, used, blocksFor, blocks, encode, parse}
 use Rattle.range.specs.Blocks.{format-sizes, length-encodeAt}
 use Rattle.range.specs.Round.{parse-encode}
 use Rattle.range.specs.Memory.{view, total, rangeFrom, rangeFrom-view}
@@ -193,8 +194,8 @@ write-put bytes lens n journal start t x q ht h =
     h ∙ put-view bytes lens n t journal start (w .entries) ht (w .inside) (w .holds) ∙ sym (unless-done _ _ _ q)
 
 -- the low bytes of lengths are their bytes in a range
-low-lengths : (ns : List ℕ) → lowBytes ns ≡ lengthBytes 1 ns
-unfolding lengthBytes digits lowBytes
+low-lengths : (ns : List ℕ) → lowBytes ns ≡ eachLow 1 ns
+unfolding eachLow digits lowBytes
 low-lengths [] = refl
 low-lengths (n ∷ ns) = ap (λ (l : List ℕ). n % 256 ∷ l) (low-lengths ns)
 

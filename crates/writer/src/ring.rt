@@ -3,6 +3,7 @@ use super::Written;
 use super::size::Sized;
 use super::size::size_of_range;
 use layout::Geometry;
+use numbers::put_number;
 use range::BLOCK_SIZE;
 use range::HEAD_SIZE;
 use range::MOST_ENTRIES;
@@ -49,16 +50,14 @@ fn wrapped(len: usize, place: usize) -> usize
     place
 }
 
-// The two counts, low byte first.
+// The two counts.
 fn head_bytes(blocks: usize, n: usize) -> [u8; 4]
     ensures { λ r. ⌜ r ≡ head blocks n ⌝ }
 {
-    [
-        (blocks % 256) as u8,
-        (blocks / 256 % 256) as u8,
-        (n % 256) as u8,
-        (n / 256 % 256) as u8,
-    ]
+    let mut head = [0; 4];
+    put_number(blocks as u64, 2, &mut head, 0);
+    put_number(n as u64, 2, &mut head, 2);
+    head
 }
 
 // How many zeros fill the blocks behind so many bytes.

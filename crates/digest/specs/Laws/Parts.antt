@@ -6,6 +6,7 @@ use mathlib.Core.List.{List, [], _++_}
 use borrow.Author.Tests.{eq-eqb, ne-eqb}
 use lib.ListN.{length, take, drop}
 use Rattle.laws.specs.Part.{part-cut}
+use Rattle.laws.specs.LowFirst.{lowFirst, eachLow}
 use Rattle.layout.specs.declared.Geometry.{Geometry}
 use Rattle.superblock.specs.declared.Superblock.{Superblock}
 use Rattle.superblock.specs.declared.MaybeSuperblock.{MaybeSuperblock}
@@ -23,20 +24,20 @@ use Rattle.machine.specs.declared.Kind.the-variants as kind
 use Rattle.machine.specs.declared.Machine.{Machine}
 use Rattle.machine.specs.Lent.{Lent}
 use Rattle.digest.specs.Take.{takeByte, takes}
-use Rattle.digest.specs.Visible.{numberBytes, lengthsBytes, superblockBytes, slotBytes, markedBytes, pieceBytes, loadedBytes, heldAs, heldBytes, workingBytes, kindBytes}
+use Rattle.digest.specs.Visible.{superblockBytes, slotBytes, markedBytes, pieceBytes, loadedBytes, heldAs, heldBytes, workingBytes, kindBytes}
 use Rattle.digest.specs.Laws.Takes.{takes-then}
 
 -- a superblock's five numbers
-pub takes-superblock : (h : ℕ) (s : Superblock) {a b c d e : ℕ} → a ≡ takes h (numberBytes (s .counter)) → b ≡ takes a (numberBytes (s .journalStart))
-    → c ≡ takes b (numberBytes (s .journalLen)) → d ≡ takes c (numberBytes (s .indirectionTableLoc .addr))
-    → e ≡ takes d (numberBytes (s .indirectionTableLoc .len)) → e ≡ takes h (superblockBytes s)
+pub takes-superblock : (h : ℕ) (s : Superblock) {a b c d e : ℕ} → a ≡ takes h (lowFirst 8 (s .counter)) → b ≡ takes a (lowFirst 8 (s .journalStart))
+    → c ≡ takes b (lowFirst 8 (s .journalLen)) → d ≡ takes c (lowFirst 8 (s .indirectionTableLoc .addr))
+    → e ≡ takes d (lowFirst 8 (s .indirectionTableLoc .len)) → e ≡ takes h (superblockBytes s)
 unfolding superblockBytes
 takes-superblock h s p q r u v =
-    let counter = numberBytes (s .counter) in
-    let start = numberBytes (s .journalStart) in
-    let len = numberBytes (s .journalLen) in
-    let addr = numberBytes (s .indirectionTableLoc .addr) in
-    let size = numberBytes (s .indirectionTableLoc .len) in
+    let counter = lowFirst 8 (s .counter) in
+    let start = lowFirst 8 (s .journalStart) in
+    let len = lowFirst 8 (s .journalLen) in
+    let addr = lowFirst 8 (s .indirectionTableLoc .addr) in
+    let size = lowFirst 8 (s .indirectionTableLoc .len) in
     takes-then h (counter ++ start ++ len ++ addr) size
     (takes-then h (counter ++ start ++ len) addr
     (takes-then h (counter ++ start) len
@@ -95,14 +96,14 @@ takes-loaded h g s pieces first second a b p q =
 -- entries that are held, and that aren't
 module _ (h : ℕ) (bytes lens : List ℕ) (taken : Count) (to : ℕ) where
   pub held-yes : (n : ℕ) {v w : ℕ} → held.Bytes n ≡ entriesHeld (length bytes) lens (taken .entries) to
-      → v ≡ takes h (lengthsBytes (take (to - taken .entries) (drop (taken .entries) lens))) → w ≡ takes v (take n (drop (taken .bytes) bytes))
+      → v ≡ takes h (eachLow 2 (take (to - taken .entries) (drop (taken .entries) lens))) → w ≡ takes v (take n (drop (taken .bytes) bytes))
       → w ≡ takes h (heldBytes bytes lens taken to)
   unfolding heldBytes heldAs
   held-yes n e p q =
       let f = entries-bytes (length bytes) lens (taken .entries) to n e .0 in
-      let l = lengthsBytes (take (to - taken .entries) (drop (taken .entries) lens)) in
+      let l = eachLow 2 (take (to - taken .entries) (drop (taken .entries) lens)) in
       takes-then h l (take n (drop (taken .bytes) bytes)) p q
-      ∙ (λ i. takes h (lengthsBytes (sym (part-is (taken .entries) to lens (f .order)) i) ++ take n (drop (taken .bytes) bytes)))
+      ∙ (λ i. takes h (eachLow 2 (sym (part-is (taken .entries) to lens (f .order)) i) ++ take n (drop (taken .bytes) bytes)))
       ∙ ap (λ (a : Held). takes h (heldAs a (part (taken .entries) to lens) (drop (taken .bytes) bytes))) e
 
   pub held-no : held.Nothing ≡ entriesHeld (length bytes) lens (taken .entries) to → h ≡ takes h (heldBytes bytes lens taken to)

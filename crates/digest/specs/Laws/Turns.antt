@@ -7,8 +7,9 @@ use lib.ListN.{length, drop, getD}
 use lib.Seq.{drop-drop}
 use Rattle.laws.specs.Part.{drop-step, drop-end, drop-min}
 use Rattle.laws.specs.Digits.{digits}
+use Rattle.laws.specs.LowFirst.{lowFirst, eachLow}
 use Rattle.digest.specs.Take.{takeByte, takes}
-use Rattle.digest.specs.Visible.{lengthBytes, lengthsBytes, markedBytes, journalBytes}
+use Rattle.digest.specs.Visible.{markedBytes, journalBytes}
 use Rattle.digest.specs.Laws.Takes.{takes-append}
 
 -- bytes, one a turn and three a turn
@@ -49,18 +50,18 @@ module _ {n : ℕ} where
 
 -- lengths
 module _ (xs : List ℕ) {n : ℕ} where
-  pub length-turn : (i v w : ℕ) → i < length xs → takes v (lengthsBytes (drop i xs)) ≡ n → w ≡ takes v (lengthBytes (getD xs i 0))
-      → takes w (lengthsBytes (drop (i + 1) xs)) ≡ n
-  unfolding lengthsBytes
+  pub length-turn : (i v w : ℕ) → i < length xs → takes v (eachLow 2 (drop i xs)) ≡ n → w ≡ takes v (lowFirst 2 (getD xs i 0))
+      → takes w (eachLow 2 (drop (i + 1) xs)) ≡ n
+  unfolding eachLow
   length-turn i v w h e q =
-      ap (λ (m : ℕ). takes m (lengthsBytes (drop (i + 1) xs))) q
-      ∙ sym (takes-append v (lengthBytes (getD xs i 0)) (lengthsBytes (drop (i + 1) xs)))
-      ∙ sym (ap (λ (ys : List ℕ). takes v (lengthsBytes ys)) (drop-step xs i 0 h))
+      ap (λ (m : ℕ). takes m (eachLow 2 (drop (i + 1) xs))) q
+      ∙ sym (takes-append v (lowFirst 2 (getD xs i 0)) (eachLow 2 (drop (i + 1) xs)))
+      ∙ sym (ap (λ (ys : List ℕ). takes v (eachLow 2 ys)) (drop-step xs i 0 h))
       ∙ e
 
-  pub length-end : (i v : ℕ) → length xs ≤ i → takes v (lengthsBytes (drop i xs)) ≡ n → v ≡ n
-  unfolding takes lengthsBytes
-  length-end i v h e = sym (ap (λ (ys : List ℕ). takes v (lengthsBytes ys)) (drop-end xs i h)) ∙ e
+  pub length-end : (i v : ℕ) → length xs ≤ i → takes v (eachLow 2 (drop i xs)) ≡ n → v ≡ n
+  unfolding takes eachLow
+  length-end i v h e = sym (ap (λ (ys : List ℕ). takes v (eachLow 2 ys)) (drop-end xs i h)) ∙ e
 
 -- blocks: the next lie one block further, or none are left
 module _ (blocks marks : List ℕ) {n : ℕ} where

@@ -19,7 +19,7 @@ use Rattle.journal.specs.Memory.{isMark, updateMarks, copyBlocks, askJournal}
 use Rattle.journal.specs.Asked.{Marks, journal-marks}
 use Rattle.range.specs.Form.{BlockSize, LengthWidth, MostEntryLength, used, blocksFor, allEntries}
 use Rattle.range.specs.Memory.{rangeFrom}
-use Rattle.range.specs.Bytes.{length-lowFirst, length-lengthBytes}
+use Rattle.laws.specs.LowFirst.{length-lowFirst, length-eachLow}
 use Rattle.range.specs.Ranges.{allEntries-count, allEntries-bytes}
 use Rattle.unpacker.specs.Unpack.{Room, unpack-asked}
 use Rattle.writer.specs.Ring.{putOk, putRange, puts-facts, puts-start, put-no, put-yes}
@@ -87,7 +87,7 @@ moved-long xs n k = length-splice xs 0 (take n (drop k xs)) (simp (length-take, 
 -- a range in a memory of blocks
 range-long : (bytes lens : List ℕ) (n t : ℕ) → n ≤ length lens → t ≤ length bytes → length (rangeFrom LengthWidth bytes lens n t) ≡ blocksFor (used LengthWidth n t) * BlockSize
 range-long bytes lens n t h k =
-    simp (length-append, length-lowFirst, length-lengthBytes, length-take-le n lens h, length-take-le t bytes k, length-replicate {A = ℕ}) (omega arith)
+    simp (length-append, length-lowFirst, length-eachLow, length-take-le n lens h, length-take-le t bytes k, length-replicate {A = ℕ}) (omega arith)
 
 put-long : (bytes lens : List ℕ) (n t : ℕ) (journal : List ℕ) (start : ℕ) → length (putRange bytes lens n t journal start) ≡ length journal
 put-long bytes lens n t journal start =

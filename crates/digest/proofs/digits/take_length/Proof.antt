@@ -3,8 +3,8 @@ use mathlib.Core.Path.{_≡_, _∙_}
 use native.Mathlib.Omega.{arith}
 use Prim.Native.Nat.{_/_, _%_}
 use Rattle.digest.specs.Take.{takeByte, takes}
-use Rattle.digest.specs.Visible.{lengthBytes}
 use Rattle.laws.specs.Digits.{digits}
+use Rattle.laws.specs.LowFirst.{lowFirst}
 use Rattle.digest.proofs.digits.take_length.Statement.{statement}
 use Rattle.digest.proofs.digits.take_length.Tie as tie
 
@@ -21,7 +21,7 @@ take-byte-requires-2 : tie.Need-take-byte-requires-2
 take-byte-requires-2 c κs = search needs
 
 returns : tie.Need-returns
-unfolding takes lengthBytes digits
+unfolding takes digits
 returns c =
     let n = c .before .before .args .n in
     let e : n / 256 ≡ n / 256 % 256 = omega arith in

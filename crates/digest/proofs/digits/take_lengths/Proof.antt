@@ -1,16 +1,16 @@
 use borrow.Author.Needs.{needs}
 use lib.ListN.{length, drop}
 use mathlib.Core.Path.{_≡_, refl}
+use Rattle.laws.specs.LowFirst.{eachLow}
 use native.Mathlib.Omega.{arith}
 use Prim.Native.Nat.{_-_, _<_}
 use Rattle.digest.specs.Laws.Turns.{length-turn, length-end}
 use Rattle.digest.specs.Take.{takes}
-use Rattle.digest.specs.Visible.{lengthsBytes}
 use Rattle.digest.proofs.digits.take_lengths.Statement.{statement}
 use Rattle.digest.proofs.digits.take_lengths.Tie as tie
 
 abbrev Inv-loop : tie.InvT-loop
-Inv-loop h lens v₀ i₀ v i = (takes v (lengthsBytes (drop i lens)) ≡ takes h (lengthsBytes lens)) × (v < 4294967291)
+Inv-loop h lens v₀ i₀ v i = (takes v (eachLow 2 (drop i lens)) ≡ takes h (eachLow 2 lens)) × (v < 4294967291)
 
 abbrev μ-loop : tie.MeasureT-loop
 μ-loop h lens v₀ i₀ v i = length lens - i

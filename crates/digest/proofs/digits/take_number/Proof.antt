@@ -4,19 +4,18 @@ use native.Mathlib.Omega.{arith}
 use Prim.Native.Nat.{_-_, _<_}
 use Rattle.digest.specs.Laws.Turns.{number-turn, number-end}
 use Rattle.digest.specs.Take.{takes}
-use Rattle.digest.specs.Visible.{numberBytes}
 use Rattle.laws.specs.Digits.{digits}
+use Rattle.laws.specs.LowFirst.{lowFirst}
 use Rattle.digest.proofs.digits.take_number.Statement.{statement}
 use Rattle.digest.proofs.digits.take_number.Tie as tie
 
 abbrev Inv-loop : tie.InvT-loop
-Inv-loop h n v₀ left₀ i₀ v left i = (takes v (digits 256 (8 - i) left) ≡ takes h (numberBytes n)) × (v < 4294967291)
+Inv-loop h n v₀ left₀ i₀ v left i = (takes v (digits 256 (8 - i) left) ≡ takes h (lowFirst 8 n)) × (v < 4294967291)
 
 abbrev μ-loop : tie.MeasureT-loop
 μ-loop h n v₀ left₀ i₀ v left i = 8 - i
 
 loop-holds : tie.Need-loop-holds Inv-loop μ-loop
-unfolding numberBytes
 loop-holds c = (refl, omega arith)
 
 cast-take-byte : tie.Need-cast-take-byte Inv-loop μ-loop

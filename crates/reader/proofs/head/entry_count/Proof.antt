@@ -1,21 +1,21 @@
 use borrow.Author.Needs.{needs}
 use mathlib.Core.Path.{sym, _∙_}
-use Rattle.range.specs.Bytes.{entryCount-is}
+use native.Mathlib.Omega.{arith}
+use Rattle.laws.specs.LowFirst.{bytes-all}
+use Rattle.range.specs.Form.{entryCount}
+use Rattle.range.specs.Lengths.{entryCount-small}
 use Rattle.reader.proofs.head.entry_count.Statement.{statement}
 use Rattle.reader.proofs.head.entry_count.Tie as tie
 
-shared-slice-read-word : tie.Need-shared-slice-read-word
-shared-slice-read-word c = search needs
-
-shared-slice-read-word-2 : tie.Need-shared-slice-read-word-2
-shared-slice-read-word-2 c = search needs
-
-word-requires : tie.Need-word-requires
-word-requires c κs = search needs
+number-at-requires : tie.Need-number-at-requires
+number-at-requires c κs = search needs
 
 returns : tie.Need-returns
-returns c = (c .word .ensures .0 ∙ sym (entryCount-is _), c .word .ensures .1)
+unfolding entryCount
+returns c =
+    let s = c .before in
+    let xs = s .before .args .s .now in
+    (c .number-at .ensures, rw (c .number-at .ensures) (entryCount-small xs (bytes-all xs (λ k h. omega (arith, s .shared-slice-known .given k)))))
 
 pub entry-count-spec : {M : Type 1} → statement M
-entry-count-spec =
-    tie.close (tie.spec shared-slice-read-word shared-slice-read-word-2 word-requires returns)
+entry-count-spec = tie.close (tie.spec number-at-requires returns)

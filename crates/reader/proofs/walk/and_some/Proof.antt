@@ -1,7 +1,7 @@
 use mathlib.Core.Path.{sym, _∙_, ap}
 use native.Mathlib.Omega.{arith}
 use Rattle.laws.specs.Choice.{also, and-also}
-use Rattle.range.specs.Bytes.{ok-byte}
+use Rattle.range.specs.Lengths.{ok-byte}
 use Rattle.reader.proofs.walk.and_some.Statement.{statement}
 use Rattle.reader.proofs.walk.and_some.Tie as tie
 

@@ -5,24 +5,25 @@ use mathlib.Core.Path.{_≡_}
 use native.Mathlib.Omega.{arith}
 use Rattle.laws.specs.Choice.{also, true-also}
 use Rattle.laws.specs.Fold.{every, flag-turn, flag-end}
-use Rattle.range.specs.Form.{isZero}
-use Rattle.reader.proofs.walk.zeros.Statement.{statement}
-use Rattle.reader.proofs.walk.zeros.Tie as tie
+use Rattle.laws.specs.LowFirst.{isZero}
+use Rattle.runs.proofs.blank.zeros.Statement.{statement}
+use Rattle.runs.proofs.blank.zeros.Tie as tie
 
 abbrev Inv-loop : tie.InvT-loop
-Inv-loop s ok₀ i₀ ok i = (i ≤ length s) × (also ok (every (isZero) (drop i s)) ≡ every (isZero) s)
+Inv-loop s greatest₀ i₀ greatest i = (i ≤ length s) × (also (isZero greatest) (every isZero (drop i s)) ≡ every isZero s)
 
 abbrev μ-loop : tie.MeasureT-loop
-μ-loop s ok₀ i₀ ok i = length s - i
+μ-loop s greatest₀ i₀ greatest i = length s - i
 
 loop-holds : tie.Need-loop-holds Inv-loop μ-loop
+unfolding isZero
 loop-holds c = (omega arith, true-also _)
 
-shared-slice-read-and-zero : tie.Need-shared-slice-read-and-zero Inv-loop μ-loop
-shared-slice-read-and-zero c = omega arith
+shared-slice-read-greater : tie.Need-shared-slice-read-greater Inv-loop μ-loop
+shared-slice-read-greater c = omega arith
 
-and-zero-requires : tie.Need-and-zero-requires Inv-loop μ-loop
-and-zero-requires c κs = search needs
+greater-requires : tie.Need-greater-requires Inv-loop μ-loop
+greater-requires c κs = search needs
 
 add-i : tie.Need-add-i Inv-loop μ-loop
 add-i c = omega arith
@@ -34,12 +35,13 @@ loop-again : tie.Need-loop-again Inv-loop μ-loop
 loop-again c =
     let i = c .before .before .before in
     let l = i .before .before .args .s .now in
-    (omega arith, flag-turn (isZero) l (i .loop .i) 0 _ _ (omega arith) (i .loop .inv .1) (c .and-zero .ensures))
+    (omega arith, flag-turn isZero l (i .loop .i) 0 _ _ (omega arith) (i .loop .inv .1) (c .greater .ensures))
 
 returns : tie.Need-returns Inv-loop μ-loop
+unfolding isZero
 returns c =
     let i = c .before in
-    flag-end (isZero) (i .before .before .args .s .now) (i .loop .i) _ (omega arith) (i .loop .inv .1)
+    flag-end isZero (i .before .before .args .s .now) (i .loop .i) _ (omega arith) (i .loop .inv .1)
 
 pub zeros-spec : {M : Type 1} → statement M
 zeros-spec =
@@ -48,8 +50,8 @@ zeros-spec =
     Inv-loop
     μ-loop
     loop-holds
-    shared-slice-read-and-zero
-    and-zero-requires
+    shared-slice-read-greater
+    greater-requires
     add-i
     loop-less
     loop-again
