@@ -3,3 +3,4 @@ pub mod Answer
 pub mod State
 pub mod Steps
 pub mod Laws
+pub mod Sectors

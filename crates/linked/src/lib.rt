@@ -2,6 +2,7 @@
 //   wokujani_range_blocks, wokujani_write_range                        pending entries as one range (crate writer)
 //   wokujani_count_entries, wokujani_list_entries, wokujani_copy_entry one range and its entries (crate reader)
 //   wokujani_scan, wokujani_unpack                                     ranges one after another (crate unpacker)
+//   wokujani_write_sector, wokujani_read_sector                        a superblock as a sector (crate sector)
 //   wokujani_add, wokujani_write_journal, wokujani_replay              whole steps of a machine whose 16 numbers the caller keeps
 //   wokujani_ask_journal, wokujani_count_pending, wokujani_count_left  questions 1 and 2's looks at lent memory
 // Each answers 0 or the number of the question that was answered no, and writes its other answers through references. Every function is
@@ -9,6 +10,7 @@
 mod listing;
 mod looks;
 mod ranges;
+mod sectors;
 mod state;
 mod steps;
 mod writing;
@@ -21,6 +23,8 @@ pub use looks::wokujani_count_left;
 pub use looks::wokujani_count_pending;
 pub use ranges::wokujani_scan;
 pub use ranges::wokujani_unpack;
+pub use sectors::wokujani_read_sector;
+pub use sectors::wokujani_write_sector;
 pub use steps::wokujani_add;
 pub use steps::wokujani_replay;
 pub use steps::wokujani_write_journal;
