@@ -1,5 +1,5 @@
 //! A second supplier's fermentation store: the journal, its commit machine and its disk,
-//! written from document 01 and the five Dafny files alone.
+//! written from document 01 and the five Dafny files alone; its sectors from document 02's S-1.
 #![forbid(unsafe_code)]
 
 pub mod conformance;
@@ -11,6 +11,7 @@ pub mod ledger;
 pub mod machine;
 pub mod range;
 mod scripts;
+pub mod sector;
 pub mod store;
 pub mod superblock;
 pub mod text;
@@ -19,7 +20,7 @@ pub mod trace;
 #[cfg(test)]
 mod tests;
 
-/// Document 01's questions; the one answered no is the refusal.
+/// Document 01's questions, and from 10 on a sector's; the one answered no is the refusal.
 #[derive(Clone, Copy, Debug, PartialEq, Eq)]
 pub enum Refusal {
     Sizes = 1,
@@ -31,6 +32,12 @@ pub enum Refusal {
     Parse = 7,
     Room = 8,
     SecondId = 9,
+    /// A sector of another length, or that begins with other contents.
+    Contents = 10,
+    /// A byte of a sector that should be zero.
+    Zeros = 11,
+    /// A sector's check number.
+    Check = 12,
 }
 
 impl Refusal {
