@@ -12,6 +12,7 @@ pub mod machine;
 pub mod range;
 mod scripts;
 pub mod sector;
+pub mod sectors;
 pub mod store;
 pub mod superblock;
 pub mod text;
