@@ -1,5 +1,8 @@
 //! Document 01's brew day, its wrong turns, and demand 3 on random days.
 
+mod sector;
+mod sectors;
+
 use std::fs;
 use std::path::Path;
 
