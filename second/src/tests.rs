@@ -1,5 +1,6 @@
 //! Document 01's brew day, its wrong turns, and demand 3 on random days.
 
+mod border;
 mod sector;
 mod sectors;
 
