@@ -4,6 +4,7 @@ use crate::coverage::STEPS;
 use crate::days::{Day, Options};
 use crate::range::Entry;
 use crate::scripts::DAYS;
+use crate::sector_conformance;
 use crate::text::{entries_line, parse_step};
 use crate::trace;
 
@@ -163,9 +164,15 @@ pub fn tables() -> String {
     text + "\n"
 }
 
-/// The page with its tables made anew, between the two marks.
+/// The page with this text between the two marks of that name.
+fn between(old: &str, name: &str, text: &str) -> Option<String> {
+    let (begin, end) = (format!("<!-- {name} -->"), format!("<!-- end of {name} -->"));
+    let (head, rest) = old.split_once(&begin)?;
+    let (_, tail) = rest.split_once(&end)?;
+    Some(format!("{head}{begin}\n{text}{end}{tail}"))
+}
+
+/// The page with its tables made anew: those of the days, and that of the sectors.
 pub fn page(old: &str) -> Option<String> {
-    let (head, rest) = old.split_once("<!-- tables -->")?;
-    let (_, tail) = rest.split_once("<!-- end of tables -->")?;
-    Some(format!("{head}<!-- tables -->\n{}<!-- end of tables -->{tail}", tables()))
+    between(&between(old, "tables", &tables())?, "sectors", &sector_conformance::table())
 }

@@ -12,6 +12,8 @@ pub mod machine;
 pub mod range;
 mod scripts;
 pub mod sector;
+mod sector_cases;
+pub mod sector_conformance;
 pub mod sector_damage;
 pub mod sector_inputs;
 pub mod sectors;

@@ -1,4 +1,4 @@
-//! Document 01's brew day, its wrong turns, and demand 3 on random days.
+//! Document 01's brew day, its wrong turns, demand 3 on random days, and the conformance files.
 
 mod border;
 mod sector;
@@ -17,7 +17,7 @@ use crate::range::{self, Entry};
 use crate::store::{Step, Store};
 use crate::superblock::Superblock;
 use crate::text::{parse_disk, parse_step, LONGEST_LINE};
-use crate::{conformance, trace, Refusal};
+use crate::{conformance, sector_conformance, trace, Refusal};
 
 fn g() -> Geometry {
     Geometry::new(8, 4096).unwrap()
@@ -360,23 +360,31 @@ fn conformance_covers() {
     }
 }
 
-/// Days, rows and tables in ../conformance are those that `conformance` writes.
+/// A folder of ../conformance has these files, and no others.
+fn holds(folder: &Path, files: &[(String, &[u8])]) {
+    let there = fs::read_dir(folder).unwrap().map(|f| f.unwrap().file_name().into_string().unwrap());
+    let mut there: Vec<String> = there.collect();
+    let mut names: Vec<&str> = files.iter().map(|(name, _)| name.as_str()).collect();
+    there.sort();
+    names.sort();
+    assert_eq!(there, names);
+    for (name, bytes) in files {
+        assert!(fs::read(folder.join(name)).unwrap() == *bytes, "{name}");
+    }
+}
+
+/// Days, sectors, rows and tables in ../conformance are those that `conformance` writes.
 #[test]
 fn conformance_is_written() {
     let folder = Path::new(env!("CARGO_MANIFEST_DIR")).join("../conformance");
-    let read = |name: &str| fs::read_to_string(folder.join(name)).expect(name);
-    let mut files = vec![];
-    for day in conformance::days() {
-        assert!(read(&format!("days/{}.day", day.name)) == day.input, "{}.day", day.name);
-        assert!(read(&format!("days/{}.rows", day.name)) == day.rows, "{}.rows", day.name);
-        files.extend([format!("{}.day", day.name), format!("{}.rows", day.name)]);
-    }
-    let there =
-        fs::read_dir(folder.join("days")).unwrap().map(|f| f.unwrap().file_name().into_string().unwrap());
-    let mut there: Vec<String> = there.collect();
-    there.sort();
-    files.sort();
-    assert_eq!(there, files);
-    let page = read("README.md");
+    let days = conformance::days();
+    let inputs = days.iter().map(|day| (format!("{}.day", day.name), day.input.as_bytes()));
+    let rows = days.iter().map(|day| (format!("{}.rows", day.name), day.rows.as_bytes()));
+    holds(&folder.join("days"), &inputs.chain(rows).collect::<Vec<_>>());
+    let cases = sector_conformance::cases();
+    let inputs = cases.iter().map(|case| (format!("{}.bytes", case.name), &case.input[..]));
+    let rows = cases.iter().map(|case| (format!("{}.rows", case.name), case.rows.as_bytes()));
+    holds(&folder.join("sectors"), &inputs.chain(rows).collect::<Vec<_>>());
+    let page = fs::read_to_string(folder.join("README.md")).unwrap();
     assert!(conformance::page(&page).as_ref() == Some(&page), "the tables of README.md");
 }

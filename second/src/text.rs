@@ -25,7 +25,7 @@ fn number(word: &str) -> Option<u64> {
 }
 
 /// Pairs of hexadecimal digits, a byte each.
-fn entry(word: &str) -> Option<Entry> {
+pub fn entry(word: &str) -> Option<Entry> {
     let digit = |b: u8| char::from(b).to_digit(16).map(|d| d as u8);
     let byte = |pair: &[u8]| match pair {
         [high, low] => Some(digit(*high)? << 4 | digit(*low)?),
