@@ -2,6 +2,8 @@
 //! bench once NAME SIDE COUNT   one piece of work so often, by `ours` or `plain`: for an instruction counter
 mod callgrind;
 mod day;
+#[cfg(test)]
+mod header;
 mod linked;
 mod plain;
 mod table;
