@@ -30,6 +30,21 @@ extern "C" {
         found: *mut u64,
         size: *mut u64,
     ) -> u8;
+    fn wokujani_write_sector(
+        counter: u64,
+        start: u64,
+        len: u64,
+        address: u64,
+        length: u64,
+        sector: *mut u8,
+        sector_len: usize,
+    ) -> u8;
+    fn wokujani_read_sector(
+        sector: *const u8,
+        sector_len: usize,
+        numbers: *mut u64,
+        numbers_len: usize,
+    ) -> u8;
     fn wokujani_ask_journal(
         n: u64,
         t: u64,
@@ -187,6 +202,20 @@ pub fn unpack(s: &[u8], bytes: &mut [u8], lens: &mut [u16]) -> Answer<(u64, u64)
         )
     };
     answer(q, (found, size))
+}
+
+pub fn write_sector(five: [u64; 5], sector: &mut [u8]) -> Answer<()> {
+    let [counter, start, len, address, length] = five;
+    let q = unsafe {
+        wokujani_write_sector(counter, start, len, address, length, sector.as_mut_ptr(), sector.len())
+    };
+    answer(q, ())
+}
+
+pub fn read_sector(sector: &[u8]) -> Answer<[u64; 5]> {
+    let mut five = [0; 5];
+    let q = unsafe { wokujani_read_sector(sector.as_ptr(), sector.len(), five.as_mut_ptr(), five.len()) };
+    answer(q, five)
 }
 
 pub fn ask_journal(n: u64, t: u64, journal: &[u8], marks: &[u8]) -> u8 {

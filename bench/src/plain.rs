@@ -126,6 +126,56 @@ pub fn unpack(s: &[u8], bytes: &mut [u8], lens: &mut [u16]) -> Answer<(u64, u64)
     Ok(total)
 }
 
+const CONTENTS: [u8; 14] = [6, 0, 64, 0, 72, 0, 80, 0, 88, 0, 96, 0, 104, 0];
+const BODIES: usize = 64;
+const BODIES_END: usize = 112;
+
+fn check_number(five: [u64; 5]) -> u64 {
+    five.into_iter().fold(0, u64::wrapping_add)
+}
+
+pub fn write_sector(five: [u64; 5], sector: &mut [u8]) -> Answer<()> {
+    if sector.len() != BLOCK {
+        return Err(10);
+    }
+    sector.fill(0);
+    sector[..CONTENTS.len()].copy_from_slice(&CONTENTS);
+    let numbers = five.into_iter().chain([check_number(five)]);
+    for (body, n) in sector[BODIES..BODIES_END].chunks_exact_mut(8).zip(numbers) {
+        body.copy_from_slice(&n.to_le_bytes());
+    }
+    Ok(())
+}
+
+fn read_fields(sector: &[u8], zeros: fn(&[u8]) -> bool) -> Answer<[u64; 5]> {
+    if sector.len() != BLOCK || sector[..CONTENTS.len()] != CONTENTS {
+        return Err(10);
+    }
+    if !zeros(&sector[CONTENTS.len()..BODIES]) || !zeros(&sector[BODIES_END..]) {
+        return Err(11);
+    }
+    let body = |i: usize| {
+        let at = BODIES + 8 * i;
+        u64::from_le_bytes(sector[at..at + 8].try_into().expect("8 bytes"))
+    };
+    let five = std::array::from_fn(body);
+    if check_number(five) == body(5) {
+        Ok(five)
+    } else {
+        Err(12)
+    }
+}
+
+pub fn read_sector(sector: &[u8]) -> Answer<[u64; 5]> {
+    read_fields(sector, |s| s.iter().all(|&b| b == 0))
+}
+
+/// The same by whole slices: the C library's memcmp, which is vectorised.
+pub fn read_sector_by_slices(sector: &[u8]) -> Answer<[u64; 5]> {
+    static ZEROS: [u8; BLOCK] = [0; BLOCK];
+    read_fields(sector, |s| *s == ZEROS[..s.len()])
+}
+
 pub fn ask_journal(n: usize, t: usize, journal: &[u8], marks: &[u8]) -> u8 {
     let ok = (1..=4096).contains(&n)
         && (1..=16_777_216).contains(&t)

@@ -1,5 +1,5 @@
 //! Each piece of work, by the library and in plain Rust, on the same input, with a test that both leave the same.
-use crate::linked::{self, Lent};
+use crate::linked::{self, Answer, Lent};
 use crate::plain::{self, Machine, BLOCK};
 use std::hint::black_box;
 use std::rc::Rc;
@@ -123,6 +123,56 @@ fn unpack(what: &'static str, blocks: usize, n: usize, size: u16) -> Work {
             let (mut x, mut y) = (memory(), memory());
             let p = linked::unpack(&c, &mut x.0, &mut x.1);
             p == plain::unpack(&c, &mut y.0, &mut y.1) && p.is_ok() && x == y
+        }),
+    }
+}
+
+/// A superblock's numbers, the counter at its largest.
+const FIVE: [u64; 5] = [u64::MAX, 6, 5, 40_960, 4096];
+
+fn sector_writer(what: &'static str) -> Work {
+    let (mut ours, mut theirs) = (vec![0xee; BLOCK], vec![0xee; BLOCK]);
+    Work {
+        what,
+        aim: Aim::Par,
+        counted: 1000,
+        ours: Box::new(move || {
+            black_box(linked::write_sector(black_box(FIVE), black_box(&mut ours))).unwrap();
+        }),
+        plain: Box::new(move || {
+            black_box(plain::write_sector(black_box(FIVE), black_box(&mut theirs))).unwrap();
+        }),
+        same: Box::new(move || {
+            let (mut x, mut y) = (vec![0xee; BLOCK], vec![0xee; BLOCK]);
+            let p = linked::write_sector(FIVE, &mut x);
+            p == plain::write_sector(FIVE, &mut y) && p.is_ok() && x == y
+        }),
+    }
+}
+
+fn sector_reader(what: &'static str, read: fn(&[u8]) -> Answer<[u64; 5]>) -> Work {
+    let mut sector = vec![0; BLOCK];
+    plain::write_sector(FIVE, &mut sector).expect("a sector's length");
+    let sector = Rc::new(sector);
+    let (a, b, c) = (sector.clone(), sector.clone(), sector);
+    Work {
+        what,
+        aim: Aim::Par,
+        counted: 1000,
+        ours: Box::new(move || {
+            black_box(linked::read_sector(black_box(&a))).unwrap();
+        }),
+        plain: Box::new(move || {
+            black_box(read(black_box(&b))).unwrap();
+        }),
+        same: Box::new(move || {
+            let alike = |s: &[u8]| linked::read_sector(s) == read(s);
+            let altered = |at: usize| {
+                let mut s = c.to_vec();
+                s[at] ^= 1;
+                alike(&s)
+            };
+            alike(&c) && linked::read_sector(&c) == Ok(FIVE) && (0..BLOCK).all(altered)
         }),
     }
 }
@@ -326,6 +376,11 @@ pub fn all() -> Vec<(&'static str, fn() -> Work)> {
         ("unpack-8", || unpack("unpacking of a full journal, N = 8, one-byte entries", 8, 1024, 1)),
         ("unpack-4096", || unpack("unpacking of a full journal, N = 4,096, one-byte entries", 4096, 1024, 1)),
         ("unpack-60", || unpack("unpacking of a full journal, N = 4,096, 60-byte entries", 4096, 67, 60)),
+        ("sector-write", || sector_writer("a superblock written as a sector")),
+        ("sector-read", || sector_reader("a sector read", plain::read_sector)),
+        ("sector-slices", || {
+            sector_reader("a sector read, zeros compared by memcmp", plain::read_sector_by_slices)
+        }),
         ("marks-8", || look_marks("question 1 of a journal, N = 8", 8)),
         ("marks-4096", || look_marks("question 1 of a journal, N = 4,096", 4096)),
         ("pending", || look_pending("question 2 of 1,024 pending entries", 1024)),
