@@ -61,8 +61,6 @@ pub enum Way {
     NoRead,
     /// Each write fails: no room.
     FullOutput,
-    /// Each write fails: nobody reads.
-    ClosedOutput,
 }
 
 pub const WAYS: &[(&str, Way)] = &[
@@ -70,7 +68,6 @@ pub const WAYS: &[(&str, Way)] = &[
     ("read in pieces", Way::Pieces),
     ("the input can't be read", Way::NoRead),
     ("the output is full", Way::FullOutput),
-    ("the output is closed", Way::ClosedOutput),
 ];
 
 pub struct Input {
@@ -168,7 +165,7 @@ impl Input {
         let [counters, places, length, comes] = self.made.map(String::from);
         match self.way {
             Way::NoRead => return vec![comes],
-            Way::FullOutput | Way::ClosedOutput => return vec![length, comes],
+            Way::FullOutput => return vec![length, comes],
             Way::Plain | Way::Pieces => {}
         }
         let slots = (1..).zip(&self.slots).filter_map(|(slot, d)| d.map(|d| format!("slot {slot}: {}", d.0)));

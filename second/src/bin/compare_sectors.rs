@@ -92,9 +92,6 @@ fn play(program: &str, input: &Input) -> Result<Printed, String> {
     };
     let mut child = command.spawn().map_err(fail)?;
     let stdin = child.stdin.take();
-    if input.way == Way::ClosedOutput {
-        child.stdout = None;
-    }
     let ended = std::thread::scope(|scope| {
         scope.spawn(|| stdin.map(|stdin| feed(stdin, input)));
         child.wait_with_output()
