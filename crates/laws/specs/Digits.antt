@@ -31,18 +31,10 @@ module _ (base : ℕ) where
   length-digits zero n = refl
   length-digits (suc w) n = ap suc (length-digits w (n / base))
 
-  -- one digit, and two
-  pub digits-two : (n : ℕ) → digits base 2 n ≡ n % base ∷ n / base % base ∷ []
-  unfolding digits
-  digits-two n = refl
-
+  -- one digit
   pub fromDigits-one : (x : ℕ) → fromDigits base (x ∷ []) ≡ x
   unfolding fromDigits
   fromDigits-one x = ap (λ (n : ℕ). x + n) (zero-mul base) ∙ add-zero x
-
-  pub fromDigits-two : (x y : ℕ) → fromDigits base (x ∷ y ∷ []) ≡ x + y * base
-  unfolding fromDigits
-  fromDigits-two x y = ap (λ (n : ℕ). x + n * base) (fromDigits-one y)
 
   -- a turn of a loop that writes digit after digit, and one of a loop that reads them, the highest first
   pub digits-turn : (w n j r : ℕ) → j < w → digits base (w - j) r ≡ drop j (digits base w n)

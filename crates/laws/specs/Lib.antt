@@ -4,6 +4,7 @@ pub mod Splice
 pub mod Fold
 pub mod Cut
 pub mod Digits
+pub mod Bytes
 pub mod LowFirst
 pub mod Ring
 pub mod Around

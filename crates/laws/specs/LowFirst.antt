@@ -1,17 +1,17 @@
 -- Numbers as bytes, low byte first: one number in w bytes, and numbers of one width back to back. What is written reads back as it was,
 -- and bytes that were read are what would be written. Over the width w of a number in bytes. Assumes nothing.
 use Prim.Native.Nat.{ℕ, zero, suc, _+_, _*_, _^_, _≤_, _<_}
-use mathlib.Core.Bool.{Bool, true, false}
+use mathlib.Core.Bool.{true}
 use mathlib.Core.Path.{_≡_, refl, sym, _∙_, ap}
 use mathlib.Core.List.{List, [], _∷_, _++_, append-assoc}
 use native.Mathlib.Nat.{zero-mul, add-zero, suc-mul, add-comm, add-assoc}
 use native.Mathlib.Omega.{arith}
-use lib.ListN.{length, take, drop, getD, replicate, length-append, length-drop}
-use lib.Dec.{eqb}
+use lib.ListN.{length, take, drop, length-append, length-drop}
 use lib.Seq.{take-at, drop-at, take-add, drop-drop, length-take-le}
-use borrow.Author.Tests.{lt-ltb, ltb-true, eq-eqb, ne-eqb, eqb-true}
-use Rattle.laws.specs.Choice.{also, also-left, also-right, also-both, also-false}
-use Rattle.laws.specs.Fold.{every, every-append, every-take, every-drop, every-all, every-at}
+use borrow.Author.Tests.{ltb-true}
+use Rattle.laws.specs.Bytes.{isByte, Bytes}
+use Rattle.laws.specs.Choice.{also-left, also-right, also-both}
+use Rattle.laws.specs.Fold.{every, every-append, every-take, every-drop}
 use Rattle.laws.specs.Part.{tab, tab-same}
 use Rattle.laws.specs.Digits.{digits, fromDigits, isDigit, length-digits, fromDigits-digits, digits-fromDigits, digits-each, fromDigits-short}
 
@@ -30,47 +30,6 @@ eachLow w (n ∷ ns) = lowFirst w n ++ eachLow w ns
 unfoldable pub eachFromLow : ℕ → ℕ → List ℕ → List ℕ
 eachFromLow w zero xs = []
 eachFromLow w (suc n) xs = fromLow (take w xs) ∷ eachFromLow w n (drop w xs)
-
--- a number that a byte holds, a list of such, and a byte that is zero
-abbrev pub isByte : ℕ → Bool
-isByte = isDigit 256
-
-abbrev pub Bytes : List ℕ → Type 0
-Bytes xs = every isByte xs ≡ true
-
-unfoldable pub isZero : ℕ → Bool
-isZero n = eqb n 0
-
--- what a lent slice knows of its elements
-pub bytes-all : (xs : List ℕ) → ((i : ℕ) → i < length xs → getD xs i 0 < 256) → Bytes xs
-unfolding isDigit
-bytes-all xs f = every-all isByte xs 0 (λ i h. lt-ltb (getD xs i 0) 256 (f i h))
-
-pub bytes-at : (xs : List ℕ) (i : ℕ) → Bytes xs → i < length xs → getD xs i 0 < 256
-unfolding isDigit
-bytes-at xs i b h = ltb-true (getD xs i 0) 256 (every-at isByte xs i 0 b h)
-
--- zeros are a run of the number 0
-pub zeros-are : (xs : List ℕ) → every isZero xs ≡ true → xs ≡ replicate (length xs) 0
-unfolding every isZero
-zeros-are [] e = refl
-zeros-are (x ∷ xs) e =
-    λ i. eqb-true x 0 (also-left (eqb x 0) (every isZero xs) e) i ∷ zeros-are xs (also-right (eqb x 0) (every isZero xs) e) i
-
--- the greater of two numbers is zero exactly where both are
-pub second-zero : (m n : ℕ) → m < n → isZero n ≡ also (isZero m) (isZero n)
-unfolding isZero
-second-zero m n h =
-    let e : eqb n 0 ≡ false = ne-eqb n 0 (λ k. omega arith) in
-    e ∙ sym (also-false (eqb m 0)) ∙ ap (also (eqb m 0)) (sym e)
-
-pub first-zero : (m n : ℕ) → n ≤ m → isZero m ≡ also (isZero m) (isZero n)
-unfolding isZero also
-first-zero m n h = go (eqb m 0) refl
-  where
-    go : (b : Bool) → eqb m 0 ≡ b → b ≡ also b (eqb n 0)
-    go true e = let k : m ≡ 0 = eqb-true m 0 e in sym (eq-eqb n 0 (omega arith))
-    go false e = refl
 
 -- one number
 pub length-lowFirst : (w n : ℕ) → length (lowFirst w n) ≡ w

@@ -8,7 +8,8 @@ use lib.ListN.{length, take, drop, getD, length-drop}
 use lib.Seq.{getD-take, getD-drop, length-take-le, take-all, take-nil}
 use Rattle.laws.specs.Digits.{fromDigits, fromDigits-turn}
 use Rattle.laws.specs.Fold.{every-take, every-drop}
-use Rattle.laws.specs.LowFirst.{fromLow, lowFirst, eachLow, eachFromLow, isByte, Bytes, fromLow-small, length-eachLow, length-eachFromLow, eachLow-append, eachFromLow-tab}
+use Rattle.laws.specs.Bytes.{isByte, Bytes}
+use Rattle.laws.specs.LowFirst.{fromLow, lowFirst, eachLow, eachFromLow, fromLow-small, length-eachLow, length-eachFromLow, eachLow-append, eachFromLow-tab}
 use Rattle.laws.specs.Part.{drop-end, drop-min, take-step, length-part, getD-tab}
 use Rattle.laws.specs.Splice.{splice, clipped, splice-none, splice-whole, clipped-min, clipped-then}
 

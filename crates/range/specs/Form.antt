@@ -11,7 +11,8 @@ use lib.Dec.{leb, eqb}
 use Rattle.laws.specs.Choice.{also}
 use Rattle.laws.specs.Fold.{sum, every}
 use Rattle.laws.specs.Cut.{cut, flat, lengths}
-use Rattle.laws.specs.LowFirst.{lowFirst, fromLow, eachLow, eachFromLow, isZero}
+use Rattle.laws.specs.Bytes.{isZero}
+use Rattle.laws.specs.LowFirst.{lowFirst, fromLow, eachLow, eachFromLow}
 pub use Rattle.layout.specs.Geometry.{BlockSize}
 
 -- an entry is a run of bytes

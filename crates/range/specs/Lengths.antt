@@ -11,7 +11,8 @@ use borrow.Author.Tests.{lt-ltb, le-leb, leb-true}
 use Rattle.laws.specs.Choice.{also, also-left, also-right, also-both, also-true}
 use Rattle.laws.specs.Fold.{every, every-take, every-drop}
 use Rattle.laws.specs.Digits.{isDigit, fromDigits-one}
-use Rattle.laws.specs.LowFirst.{eachLow, eachFromLow, isByte, Bytes, fromLow-small, eachFromLow-eachLow}
+use Rattle.laws.specs.Bytes.{isByte, Bytes}
+use Rattle.laws.specs.LowFirst.{eachLow, eachFromLow, fromLow-small, eachFromLow-eachLow}
 use Rattle.range.specs.Form.{MostEntryLength, okLength, blockCount, entryCount}
 
 -- a length within the limits

@@ -13,7 +13,8 @@ use lib.Seq.{take-at, drop-at, take-append-le}
 use Rattle.laws.specs.Choice.{also, also-left, also-right, also-both, cond-some}
 use Rattle.laws.specs.Fold.{sum, every, Each, every-append, sum-append}
 use Rattle.laws.specs.Cut.{flat, lengths, flat-append, lengths-append}
-use Rattle.laws.specs.LowFirst.{fromLow, isByte, Bytes}
+use Rattle.laws.specs.Bytes.{isByte, Bytes}
+use Rattle.laws.specs.LowFirst.{fromLow}
 use Rattle.range.specs.Form.{Entry, BlockSize, blocksAt, encodeAt, blockCount, entriesAt, okLength, parsesAt, Good, rangeSize, rangesWithin, ranges, allParseAt, allEntriesAt, parseAllAt, encodeAllAt, blocksAllAt}
 use Rattle.range.specs.Blocks.{Sizes, length-encodeAt}
 use Rattle.range.specs.Shape.{shape-facts, length-entriesAt}

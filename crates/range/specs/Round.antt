@@ -16,7 +16,8 @@ use Rattle.laws.specs.Fold.{sum, every, every-append, every-take, every-drop, e
 use Rattle.laws.specs.Part.{length-part, part-then}
 use Rattle.laws.specs.Digits.{isDigit}
 use Rattle.laws.specs.Cut.{cut, flat, lengths, length-lengths, length-flat, lengths-cut, flat-cut, cut-flat}
-use Rattle.laws.specs.LowFirst.{lowFirst, fromLow, eachLow, eachFromLow, isByte, Bytes, isZero, zeros-are, length-lowFirst, fromLow-lowFirst, lowFirst-fromLow, lowFirst-bytes, length-eachLow, eachLow-bytes, eachLow-eachFromLow}
+use Rattle.laws.specs.Bytes.{isByte, Bytes, isZero, zeros-are}
+use Rattle.laws.specs.LowFirst.{lowFirst, fromLow, eachLow, eachFromLow, length-lowFirst, fromLow-lowFirst, lowFirst-fromLow, lowFirst-bytes, length-eachLow, eachLow-bytes, eachLow-eachFromLow}
 use Rattle.range.specs.Form.{Entry, BlockSize, HeadSize, blocksFor, usedAt, blocksAt, encodeAt, blockCount, entryCount, lengthsAt, usedIn, entriesAt, parsesAt, parseAt, Good}
 use Rattle.range.specs.Lengths.{lengths-written}
 use Rattle.range.specs.Blocks.{Sizes, length-encodeAt, good-blocks, good-count}

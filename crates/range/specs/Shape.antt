@@ -11,7 +11,8 @@ use borrow.Author.Tests.{eq-eqb, le-leb, eqb-true, leb-true}
 use Rattle.laws.specs.Choice.{also-left, also-right, also-both, not-so}
 use Rattle.laws.specs.Fold.{sum, every, sum-split, sum-take-step}
 use Rattle.laws.specs.Cut.{length-cut, cut-at}
-use Rattle.laws.specs.LowFirst.{isZero, length-eachFromLow}
+use Rattle.laws.specs.Bytes.{isZero}
+use Rattle.laws.specs.LowFirst.{length-eachFromLow}
 use Rattle.range.specs.Form.{BlockSize, MostEntries, HeadSize, blocksFor, blockCount, entryCount, lengthsAt, usedIn, entriesAt, okLength, parsesAt}
 use Rattle.range.specs.Lengths.{eachFromLow-one}
 

@@ -11,7 +11,7 @@ use Rattle.laws.specs.Choice.{ask, not-so, false-true, ruin}
 use Rattle.laws.specs.Part.{part-of-front, drop-take}
 use Rattle.laws.specs.Fold.{sum, every}
 use Rattle.laws.specs.Cut.{flat, lengths, flat-cut}
-use Rattle.laws.specs.LowFirst.{Bytes, isZero}
+use Rattle.laws.specs.Bytes.{Bytes, isZero}
 use Rattle.range.specs.Form.{Entry, BlockSize, MostEntryLength, LengthWidth, HeadSize, used, blocksFor, blockCount, entryCount, lengthsAt, usedIn, entriesAt, entries, okLength, parses, rangeSize}
 use Rattle.range.specs.Shape.{Shape, shape-of, shape-facts, shape-yes, length-entriesAt}
 use Rattle.range.specs.Round.{lengths-entriesAt}

@@ -11,7 +11,7 @@ use borrow.Author.Tests.{le-leb, lt-leb, eq-eqb, leb-true, eqb-true}
 use Rattle.laws.specs.Choice.{by-leb, also, ask, ask-yes, also-left, also-right, also-both}
 use Rattle.laws.specs.Fold.{sum, sum-bound}
 use Rattle.range.specs.Form.{MostEntries, MostEntryLength, LengthWidth, HeadSize, used, blocksFor, blockCount, entryCount, lengthsAt, entries, parses}
-use Rattle.laws.specs.LowFirst.{Bytes, bytes-at}
+use Rattle.laws.specs.Bytes.{Bytes, bytes-at}
 use Rattle.range.specs.Lengths.{blockCount-small, entryCount-small}
 use Rattle.range.specs.Shape.{Shape, shape-facts, lengthsAt-one, lengthsAt-one-at, length-lengthsAt, length-entriesAt}
 use Rattle.reader.specs.declared.answer.Contents.{Contents}

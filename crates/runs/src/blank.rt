@@ -3,7 +3,7 @@ ghost use mathlib.Core.Path.{_≡_};
 ghost use lib.Dec.{eqb};
 ghost use Rattle.laws.specs.Choice.{also};
 ghost use Rattle.laws.specs.Fold.{every};
-ghost use Rattle.laws.specs.LowFirst.{isZero};
+ghost use Rattle.laws.specs.Bytes.{isZero};
 
 fn greater(a: u8, b: u8) -> u8
     ensures { λ r. ⌜ isZero r ≡ also (isZero a) (isZero b) ⌝ }

@@ -10,7 +10,8 @@ use borrow.Author.Tests.{eq-eqb, ne-eqb}
 use Rattle.laws.specs.Choice.{also, andThen, ask, asks-no, asks-yes}
 use Rattle.laws.specs.Digits.{digits}
 use Rattle.laws.specs.Fold.{every, same}
-use Rattle.laws.specs.LowFirst.{fromLow, lowFirst, eachLow, isZero, length-lowFirst, length-eachLow}
+use Rattle.laws.specs.Bytes.{isZero}
+use Rattle.laws.specs.LowFirst.{fromLow, lowFirst, eachLow, length-lowFirst, length-eachLow}
 use Rattle.laws.specs.Part.{tab, tail-is}
 use Rattle.laws.specs.Splice.{clipped, clipped-next, clipped-whole}
 use Rattle.sector.specs.Sector.{NumberCount, SectorSize, BodiesStart, BodySize, bodyStart, contentsSize, contents, checkNumber, sectorOf, numbersIn, checkIn, askFields, askSector}

@@ -11,7 +11,8 @@ use borrow.Author.Tests.{eq-eqb, eqb-true}
 use Rattle.laws.specs.Choice.{also-left, also-right, also-both, andThen-left, andThen-right, andThen-both, ask-yes, ask-holds}
 use Rattle.laws.specs.Digits.{isDigit}
 use Rattle.laws.specs.Fold.{every, every-take, every-drop, every-replicate, same-is, is-same}
-use Rattle.laws.specs.LowFirst.{fromLow, lowFirst, eachLow, eachFromLow, isByte, Bytes, isZero, zeros-are, length-lowFirst, fromLow-lowFirst, lowFirst-fromLow, length-eachLow, length-eachFromLow, eachFromLow-eachLow, eachLow-eachFromLow}
+use Rattle.laws.specs.Bytes.{isByte, Bytes, isZero, zeros-are}
+use Rattle.laws.specs.LowFirst.{fromLow, lowFirst, eachLow, eachFromLow, length-lowFirst, fromLow-lowFirst, lowFirst-fromLow, length-eachLow, length-eachFromLow, eachFromLow-eachLow, eachLow-eachFromLow}
 use Rattle.laws.specs.Part.{tab, length-tab, length-part, part-then}
 use Rattle.sector.specs.Sector.{SectorSize, BodiesStart, BodySize, OffsetSize, bodyStart, contentsSize, contents, checkNumber, sectorOf, numbersIn, checkIn, gap, rest, askFields}
 

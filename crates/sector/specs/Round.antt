@@ -8,7 +8,8 @@ use borrow.Author.Tests.{lt-ltb}
 use Rattle.laws.specs.Choice.{also-both, asked-yes}
 use Rattle.laws.specs.Digits.{isDigit}
 use Rattle.laws.specs.Fold.{every}
-use Rattle.laws.specs.LowFirst.{Bytes, eachFromLow}
+use Rattle.laws.specs.Bytes.{Bytes}
+use Rattle.laws.specs.LowFirst.{eachFromLow}
 use Rattle.superblock.specs.declared.Superblock.{Superblock}
 use Rattle.sector.specs.declared.SectorRead.the-variants as read
 use Rattle.sector.specs.Answer.{readSector, read-holds}

@@ -10,7 +10,8 @@ use lib.Dec.{eqb}
 use Rattle.laws.specs.Choice.{also, andThen, ask}
 use Rattle.laws.specs.Fold.{sum, every, same}
 use Rattle.laws.specs.Part.{tab}
-use Rattle.laws.specs.LowFirst.{lowFirst, fromLow, eachLow, eachFromLow, isZero}
+use Rattle.laws.specs.Bytes.{isZero}
+use Rattle.laws.specs.LowFirst.{lowFirst, fromLow, eachLow, eachFromLow}
 use Rattle.superblock.specs.declared.Superblock.{Superblock}
 
 abbrev pub SectorSize : ℕ

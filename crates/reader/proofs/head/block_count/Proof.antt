@@ -1,7 +1,7 @@
 use borrow.Author.Needs.{needs}
 use mathlib.Core.Path.{sym, _∙_}
 use native.Mathlib.Omega.{arith}
-use Rattle.laws.specs.LowFirst.{bytes-all}
+use Rattle.laws.specs.Bytes.{bytes-all}
 use Rattle.range.specs.Form.{blockCount}
 use Rattle.range.specs.Lengths.{blockCount-small}
 use Rattle.reader.proofs.head.block_count.Statement.{statement}

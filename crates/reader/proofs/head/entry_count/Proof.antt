@@ -1,7 +1,7 @@
 use borrow.Author.Needs.{needs}
 use mathlib.Core.Path.{sym, _∙_}
 use native.Mathlib.Omega.{arith}
-use Rattle.laws.specs.LowFirst.{bytes-all}
+use Rattle.laws.specs.Bytes.{bytes-all}
 use Rattle.range.specs.Form.{entryCount}
 use Rattle.range.specs.Lengths.{entryCount-small}
 use Rattle.reader.proofs.head.entry_count.Statement.{statement}

@@ -2,7 +2,7 @@ use borrow.Author.Needs.{needs}
 use denote.Ref.{now}
 use mathlib.Core.Path.{sym, _∙_}
 use native.Mathlib.Omega.{arith}
-use Rattle.laws.specs.LowFirst.{bytes-all}
+use Rattle.laws.specs.Bytes.{bytes-all}
 use Rattle.reader.specs.Front.{front-small, front-past, front-counts, front-counted, front-holds, front-bad-length, front-nonzero, front-yes}
 use Rattle.reader.specs.Range.{Small, Said}
 use Rattle.reader.proofs.parse.range_in_front.Statement.{statement}

@@ -1,5 +1,5 @@
 use native.Mathlib.Omega.{arith}
-use Rattle.laws.specs.LowFirst.{first-zero, second-zero}
+use Rattle.laws.specs.Bytes.{first-zero, second-zero}
 use Rattle.runs.proofs.blank.greater.Statement.{statement}
 use Rattle.runs.proofs.blank.greater.Tie as tie
 

@@ -5,7 +5,7 @@ use mathlib.Core.Path.{_≡_}
 use native.Mathlib.Omega.{arith}
 use Rattle.laws.specs.Choice.{also, true-also}
 use Rattle.laws.specs.Fold.{every, flag-turn, flag-end}
-use Rattle.laws.specs.LowFirst.{isZero}
+use Rattle.laws.specs.Bytes.{isZero}
 use Rattle.runs.proofs.blank.zeros.Statement.{statement}
 use Rattle.runs.proofs.blank.zeros.Tie as tie
 
