@@ -3,6 +3,8 @@
 mod callgrind;
 mod day;
 #[cfg(test)]
+mod example;
+#[cfg(test)]
 mod header;
 mod linked;
 mod plain;
