@@ -14,8 +14,7 @@ use Rattle.laws.specs.Bytes.{isZero}
 use Rattle.laws.specs.LowFirst.{fromLow, lowFirst, eachLow, length-lowFirst, length-eachLow}
 use Rattle.laws.specs.Part.{tab, tail-is}
 use Rattle.laws.specs.Splice.{clipped, clipped-next, clipped-whole}
-use Rattle.sector.specs.Sector.{NumberCount, SectorSize, BodiesStart, BodySize, bodyStart, contentsSize, contents, checkNumber, sectorOf, numbersIn, checkIn, askFields, askSector}
-use Rattle.sector.specs.Laws.{length-numbersIn}
+use Rattle.sector.specs.Sector.{NumberCount, SectorSize, BodiesStart, BodySize, bodyStart, contentsSize, contents, checkNumber, sectorOf, numbersIn, checkIn, askFields}
 
 -- a row of bytes is the contents of n numbers and the check number, and they end before the bodies begin
 pub record Fields (bytes : List ℕ) (n : ℕ) : Type 0 where
@@ -75,48 +74,33 @@ put-runs bytes ns d x1 x2 x3 x4 x5 c f l ec e1 e2 e3 e4 e5 =
     n4 : length (bytes ++ blank ++ bodies ++ check ++ last) ≡ length (bytes ++ blank ++ bodies ++ check) + (SectorSize - (BodiesStart + length ns * BodySize + BodySize))
     n4 = length-append (bytes ++ blank ++ bodies ++ check) last ∙ ap (λ (m : ℕ). length (bytes ++ blank ++ bodies ++ check) + m) (length-replicate (SectorSize - (BodiesStart + length ns * BodySize + BodySize)) 0)
 
--- what the reader has found when it asks: the contents are as many as the numbers, which are those in the bytes, and the length is right
-pub record Asked (bytes ns xs : List ℕ) : Type 0 where
-  pub fields : Fields bytes (length ns)
-  pub read : ns ≡ numbersIn (length ns) xs
-  pub whole : length xs ≡ SectorSize
-
-pub asked-by : (n : ℕ) (bytes ns xs : List ℕ) → Fields bytes n → ns ≡ numbersIn n xs → length xs ≡ SectorSize → Asked bytes ns xs
-asked-by n bytes ns xs f e h =
-    let l : n ≡ length ns = sym (ap length e ∙ length-numbersIn n xs) in
-    record { fields = rw (← l) f; read = e ∙ ap (λ (m : ℕ). numbersIn m xs) l; whole = h }
-
--- the number that the reader answers, told of n
-pub asked-number : (n q : ℕ) (ns xs : List ℕ) → ns ≡ numbersIn n xs → q ≡ askFields (length ns) xs → q ≡ askFields n xs
-asked-number n q ns xs e h = h ∙ ap (λ (m : ℕ). askFields m xs) (ap length e ∙ length-numbersIn n xs)
-
 -- the questions as the reader asks them
 pub ask-length : (n : ℕ) (xs : List ℕ) → (length xs ≡ SectorSize → ⊥) → 10 ≡ askFields n xs
 unfolding askFields
 ask-length n xs h = asks-no 10 (eqb (length xs) SectorSize) _ (omega arith) (ne-eqb (length xs) SectorSize h)
 
-module _ (bytes ns xs : List ℕ) (a : Asked bytes ns xs) where
+module _ (bytes xs : List ℕ) (n : ℕ) (f : Fields bytes n) (whole : length xs ≡ SectorSize) where
   -- where the bodies end
   abbrev end : ℕ
-  end = BodiesStart + length ns * BodySize + BodySize
+  end = BodiesStart + n * BodySize + BodySize
 
-  pub ask-parts : askFields (length ns) xs
+  pub ask-parts : askFields n xs
       ≡ andThen (ask 10 (same bytes (take (length bytes - 0) xs)))
       (andThen (ask 11 (also (every isZero (take (BodiesStart - length bytes) (drop (length bytes) xs))) (every isZero (take (SectorSize - end) (drop end xs)))))
-      (ask 12 (eqb (fromLow (take (min BodySize 8) (drop (BodiesStart + length ns * BodySize) xs))) (checkNumber ns))))
+      (ask 12 (eqb (fromLow (take (min BodySize 8) (drop (BodiesStart + n * BodySize) xs))) (checkNumber (numbersIn n xs)))))
   unfolding askFields checkIn
   ask-parts =
-      asks-yes 10 (eqb (length xs) SectorSize) _ (eq-eqb (length xs) SectorSize (a .whole))
+      asks-yes 10 (eqb (length xs) SectorSize) _ (eq-eqb (length xs) SectorSize whole)
       ∙ (λ i.
-      andThen (ask 10 (same (sym (a .fields .are) i) (take (size i) xs)))
-      (andThen (ask 11 (also (every isZero (take (BodiesStart - sym (a .fields .long) i) (drop (sym (a .fields .long) i) xs))) (every isZero (tail i))))
-      (ask 12 (eqb (fromLow (take BodySize (drop (bodyStart (length ns)) xs))) (checkNumber (sym (a .read) i))))))
+      andThen (ask 10 (same (sym (f .are) i) (take (size i) xs)))
+      (andThen (ask 11 (also (every isZero (take (BodiesStart - sym (f .long) i) (drop (sym (f .long) i) xs))) (every isZero (tail i))))
+      (ask 12 (eqb (fromLow (take BodySize (drop (bodyStart n) xs))) (checkNumber (numbersIn n xs))))))
     where
-      size : contentsSize (length ns) ≡ length bytes - 0
-      size = omega (arith, a .fields .long)
+      size : contentsSize n ≡ length bytes - 0
+      size = omega (arith, f .long)
 
-      ends : bodyStart (length ns + 1) ≡ end
+      ends : bodyStart (n + 1) ≡ end
       ends = omega arith
 
-      tail : drop (bodyStart (length ns + 1)) xs ≡ take (SectorSize - end) (drop end xs)
-      tail = ap (λ (m : ℕ). drop m xs) ends ∙ sym (ap (λ (m : ℕ). take (m - end) (drop end xs)) (sym (a .whole)) ∙ tail-is xs end)
+      tail : drop (bodyStart (n + 1)) xs ≡ take (SectorSize - end) (drop end xs)
+      tail = ap (λ (m : ℕ). drop m xs) ends ∙ sym (ap (λ (m : ℕ). take (m - end) (drop end xs)) (sym whole) ∙ tail-is xs end)

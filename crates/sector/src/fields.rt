@@ -6,6 +6,7 @@ use super::check::check_number;
 use numbers::number_at;
 use numbers::put_number;
 use numbers::put_numbers;
+use numbers::read_numbers;
 use runs::fill;
 use runs::same_bytes;
 use runs::write_bytes;
@@ -13,7 +14,7 @@ use runs::zeros;
 ghost use mathlib.Core.Path.{_≡_};
 ghost use lib.ListN.{length};
 ghost use Rattle.laws.specs.Choice.{andThen, ask};
-ghost use Rattle.sector.specs.Fields.{Fields, Asked};
+ghost use Rattle.sector.specs.Fields.{Fields};
 ghost use Rattle.sector.specs.Sector.{SectorSize, sectorOf, askFields};
 
 // Numbers and their check number as a sector, run by run: the contents, zeros, the bodies, zeros.
@@ -48,9 +49,9 @@ fn first_no(contents: bool, blank: bool, checked: bool) -> u8
     12
 }
 
-// The questions of 4,096 bytes whose numbers were read.
-pub(crate) fn ask_fields(contents: &[u8], numbers: &[u64], sector: &[u8]) -> u8
-    requires { ⌜ Asked (now contents) (now numbers) (now sector) ⌝ }
+// The questions of 4,096 bytes. The numbers are read into `numbers` behind the look for zeros, where the compiler joins their bytes.
+pub(crate) fn ask_fields(contents: &[u8], numbers: &mut [u64], sector: &[u8]) -> u8
+    requires { ⌜ Fields (now contents) (length (now numbers)) × (length (now sector) ≡ SectorSize) ⌝ }
     ensures { λ r. ⌜ r ≡ askFields (length (now (numbers .entry))) (now (sector .entry)) ⌝ }
 {
     let head = contents.len();
@@ -59,6 +60,7 @@ pub(crate) fn ask_fields(contents: &[u8], numbers: &[u64], sector: &[u8]) -> u8
     let same = same_bytes(contents, &sector[0..head]);
     let gap = zeros(&sector[head..BODIES_START]);
     let rest = zeros(&sector[end..SECTOR_SIZE]);
+    read_numbers(sector, BODIES_START, numbers);
     let found = number_at(sector, last, BODY_SIZE);
     let check = check_number(numbers);
     first_no(same, gap & rest, found == check)

@@ -20,8 +20,7 @@ pub fn ask_sector(sector: &[u8]) -> u8
         return 10;
     }
     let mut numbers = [0; NUMBER_COUNT];
-    read_numbers(sector, BODIES_START, &mut numbers);
-    ask_fields(&CONTENTS, &numbers, sector)
+    ask_fields(&CONTENTS, &mut numbers, sector)
 }
 
 // The superblock of the numbers that a sector has, whatever else its bytes are.
