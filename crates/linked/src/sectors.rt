@@ -9,7 +9,7 @@ use superblock::Superblock;
 ghost use mathlib.Core.Path.{_≡_};
 ghost use mathlib.Core.List.{[], _∷_};
 ghost use Rattle.laws.specs.Choice.{unless};
-ghost use Rattle.sector.specs.Sector.{NumberCount, askSize, numbersIn, sectorOf};
+ghost use Rattle.sector.specs.Sector.{NumberCount, askLength, numbersIn, sectorOf};
 ghost use Rattle.linked.specs.Sectors.{askNumbersIn};
 
 // The sector of the five numbers into `sector`, 4,096 bytes.
@@ -22,8 +22,8 @@ pub extern "C" fn wokujani_write_sector(
     length: u64,
     sector: &mut [u8],
 ) -> u8
-    ensures { λ r. ⌜ r ≡ askSize (now (sector .entry)) ⌝ }
-    ensures { λ _. ⌜ now (sector .exit) ≡ unless (askSize (now (sector .entry))) (now (sector .entry)) (sectorOf (counter ∷ start ∷ len ∷ address ∷ length ∷ [])) ⌝ }
+    ensures { λ r. ⌜ r ≡ askLength (now (sector .entry)) ⌝ }
+    ensures { λ _. ⌜ now (sector .exit) ≡ unless (askLength (now (sector .entry))) (now (sector .entry)) (sectorOf (counter ∷ start ∷ len ∷ address ∷ length ∷ [])) ⌝ }
 {
     let loc = Location {
         addr: address,

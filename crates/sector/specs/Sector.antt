@@ -64,18 +64,18 @@ gap n xs = take (BodiesStart - contentsSize n) (drop (contentsSize n) xs)
 abbrev pub rest : ℕ → List ℕ → List ℕ
 rest n xs = drop (bodyStart (n + 1)) xs
 
-abbrev pub blank : ℕ → List ℕ → Bool
-blank n xs = also (every isZero (gap n xs)) (every isZero (rest n xs))
+abbrev pub zeroElsewhere : ℕ → List ℕ → Bool
+zeroElsewhere n xs = also (every isZero (gap n xs)) (every isZero (rest n xs))
 
 -- the questions of a sector: its length and contents (10), the bytes that should be zero (11), its check number (12)
-abbrev pub askSize : List ℕ → ℕ
-askSize xs = ask 10 (eqb (length xs) SectorSize)
+abbrev pub askLength : List ℕ → ℕ
+askLength xs = ask 10 (eqb (length xs) SectorSize)
 
 unfoldable pub askFields : ℕ → List ℕ → ℕ
 askFields n xs =
-    andThen (askSize xs)
+    andThen (askLength xs)
     (andThen (ask 10 (same (contents n) (take (contentsSize n) xs)))
-    (andThen (ask 11 (blank n xs))
+    (andThen (ask 11 (zeroElsewhere n xs))
     (ask 12 (eqb (checkIn n xs) (checkNumber (numbersIn n xs))))))
 
 -- a superblock's numbers, and the superblock that numbers make
