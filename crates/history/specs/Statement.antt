@@ -62,17 +62,21 @@ pub record Takes (g : Geometry) (C : Codec) (L : Limits) (s t : Y.Variables) (x 
   pub tied : Tied x event
   pub allowed : Allowed g C L s t event
 
--- an accepted call is an allowed step; a refused one leaves the state as it is
-abbrev pub Goes : Geometry → Codec → Limits → Y.Variables → Y.Variables → Call → Bool → Type 0
-Goes g C L s t x true = Takes g C L s t x
-Goes g C L s t x false = t ≡ s
+-- an accepted call is a step, by what `takes` says of it; a refused one leaves the state as it is
+abbrev pub Goes : {S X : Type 0} → (S → S → X → Type 0) → S → X → Bool → S → Type 0
+Goes takes s x true t = takes s t x
+Goes takes s x false t = t ≡ s
 
 -- each call gets the state as the last one left it
+abbrev pub Runs : {S X : Type 0} → (S → X → Bool → S → Type 0) → S → List X → List Bool → S → Type 0
+Runs goes s [] [] t = t ≡ s
+Runs goes s [] (b ∷ bs) t = ⊥
+Runs goes s (x ∷ xs) [] t = ⊥
+Runs {S} goes s (x ∷ xs) (b ∷ bs) t = (u : S) × goes s x b u × Runs goes u xs bs t
+
+-- a list of calls with their answers
 abbrev pub Trace : Geometry → Codec → Limits → Y.Variables → List Call → List Bool → Y.Variables → Type 0
-Trace g C L s [] [] t = t ≡ s
-Trace g C L s [] (b ∷ bs) t = ⊥
-Trace g C L s (x ∷ xs) [] t = ⊥
-Trace g C L s (x ∷ xs) (b ∷ bs) t = (u : Y.Variables) × Goes g C L s u x b × Trace g C L u xs bs t
+Trace g C L = Runs (Goes (Takes g C L))
 
 -- reads and their whole answers, and the two finishing steps
 unfoldable pub loads : Call → Bool
@@ -175,12 +179,9 @@ pub record Store (g : Geometry) (C : Codec) (L : Limits) : Type 1 where
   pub sound : (s : State) (x : Made) (t : State) → Promise s x true t → Takes g C L (view s) (view t) (call x)
   pub refused : (s : State) (x : Made) (t : State) → Promise s x false t → view t ≡ view s
 
--- each call gets the state as the last one left it
+-- a list of its calls with their answers
 abbrev pub Ran : {g : Geometry} {C : Codec} {L : Limits} (S : Store g C L) → S .State → List (S .Made) → List Bool → S .State → Type 0
-Ran S s [] [] t = t ≡ s
-Ran S s [] (b ∷ bs) t = ⊥
-Ran S s (x ∷ xs) [] t = ⊥
-Ran S s (x ∷ xs) (b ∷ bs) t = (u : S .State) × S .Promise s x b u × Ran S u xs bs t
+Ran S = Runs (S .Promise)
 
 -- as `Loaded`, of a store whose first state is seen as `first`, and whose machine at the end is seen as `r`
 pub record LoadedStore {g : Geometry} {C : Codec} {L : Limits} (S : Store g C L) (first : Y.Variables) (s : S .State) (calls : List (S .Made)) (answers : List Bool) (crashing : S .Made) (loading : List (S .Made)) (loaded : List Bool) (r : M.ReadyVariables) : Type 0 where

@@ -9,14 +9,14 @@ use Rattle.source.specs.JournalCache as M
 use Rattle.source.specs.JournalSystem as Y
 use Rattle.source.specs.Limits.{Limits}
 use Rattle.history.specs.Ledger.{Call, Ledger, heard, books, shown}
-use Rattle.history.specs.Statement.{Goes, Trace, loads, OnlyLoads}
+use Rattle.history.specs.Statement.{Takes, Goes, Trace, loads, OnlyLoads}
 use Rattle.history.specs.Simulation.Relation.{Sim}
 use Rattle.history.specs.Simulation.Steps.{sim-step}
 use Rattle.history.specs.Whole.Reloaded.{Clean, clean-step, loads-tell}
 
 module _ (g : Geometry) (C : Codec) (L : Limits) where
   -- the relation through a list
-  sim-goes : (p : ℕ) (s t : Y.Variables) (l : Ledger) (x : Call) (b : Bool) → Sim g C p (s .machine) (s .disk) l → Goes g C L s t x b → Sim g C p (t .machine) (t .disk) (heard g C b x l)
+  sim-goes : (p : ℕ) (s t : Y.Variables) (l : Ledger) (x : Call) (b : Bool) → Sim g C p (s .machine) (s .disk) l → Goes (Takes g C L) s x b t → Sim g C p (t .machine) (t .disk) (heard g C b x l)
   sim-goes p s t l x true z h = sim-step g C L p s t l z x h
   sim-goes p s t l x false z h = subst (λ (u : Y.Variables). Sim g C p (u .machine) (u .disk) l) (sym h) z
 
@@ -32,7 +32,7 @@ module _ (g : Geometry) (C : Codec) (L : Limits) where
     pub sim : Sim g C p (s .machine) (s .disk) l
     pub clean : Clean p (s .machine) (shown C l)
 
-  kept-goes : (p : ℕ) (s t : Y.Variables) (l : Ledger) (x : Call) (b : Bool) → Reloading p s l → (b ≡ true → loads x ≡ true) → Goes g C L s t x b → Reloading p t l
+  kept-goes : (p : ℕ) (s t : Y.Variables) (l : Ledger) (x : Call) (b : Bool) → Reloading p s l → (b ≡ true → loads x ≡ true) → Goes (Takes g C L) s x b t → Reloading p t l
   kept-goes p s t l x true z f h =
       record { sim = subst (Sim g C p (t .machine) (t .disk)) (loads-tell g C x l (f refl)) (sim-step g C L p s t l (z .sim) x h); clean = clean-step g C L p s t l (z .sim) (z .clean) x (f refl) h }
   kept-goes p s t l x false z f h = subst (λ (u : Y.Variables). Reloading p u l) (sym h) z

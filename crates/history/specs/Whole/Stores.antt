@@ -14,11 +14,12 @@ use Rattle.history.specs.Statement.{Takes, Goes, Trace, Loaded, ledgerOf
 use Rattle.history.specs.Whole.History.{whole-history}
 
 module _ (g : Geometry) (C : Codec) (L : Limits) (S : Store g C L) where
-  goes : (s : S .State) (x : S .Made) (b : Bool) (t : S .State) → S .Promise s x b t → Goes g C L (S .view s) (S .view t) (S .call x) b
+  goes : (s : S .State) (x : S .Made) (b : Bool) (t : S .State) → S .Promise s x b t → Goes (Takes g C L) (S .view s) (S .call x) b (S .view t)
   goes s x true t h = S .sound s x t h
   goes s x false t h = S .refused s x t h
 
-  ran-trace : (s : S .State) (xs : List (S .Made)) (bs : List Bool) (t : S .State) → Ran S s xs bs t → Trace g C L (S .view s) (map (S .call) xs) bs (S .view t)
+  -- a list of its calls is a list of the history
+  pub ran-trace : (s : S .State) (xs : List (S .Made)) (bs : List Bool) (t : S .State) → Ran S s xs bs t → Trace g C L (S .view s) (map (S .call) xs) bs (S .view t)
   ran-trace s [] [] t h = ap (S .view) h
   ran-trace s [] (b ∷ bs) t h = absurd h
   ran-trace s (x ∷ xs) [] t h = absurd h
