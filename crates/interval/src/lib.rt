@@ -2,7 +2,8 @@
 //   JournalInterval   a start and a len in blocks, going round the ring; which are valid, contiguous, within one another, overlap
 //   its parts         front and back, the point after it, two in a row, the interval of a location
 // Every function is total. Most ask questions 1 and 4, and answer by an enum: the value, or the refusal number. `valid`, `contiguous`,
-// `overlaps`, `front` and `back` ask nothing: they are what the source defines, for any geometry and any interval.
+// `front` and `back` ask nothing: they are what the source defines, for any geometry and any interval. Nor do `meets` and `overlaps`, the plain and
+// the cyclic test of overlap: they are the source's where neither interval is empty, and an empty one overlaps nothing.
 mod interval;
 mod overlap;
 

@@ -1,4 +1,5 @@
-// Overlap of intervals: plain, of two that do not pass the ring's end, and cyclic, of any two.
+// Overlap of intervals: plain, of two that do not pass the ring's end, and cyclic, of any two. An empty interval overlaps nothing; where neither is
+// empty, the tests are the source's, named `source_..` here.
 use super::JournalInterval;
 use layout::Decision;
 use layout::Geometry;
@@ -7,7 +8,7 @@ ghost use Prim.Native.Nat.{_+_, _-_};
 ghost use lib.Dec.{ltb};
 ghost use Rattle.layout.specs.Answer.{decided};
 ghost use Rattle.interval.specs.Interval.{askIntervals, askContiguous};
-ghost use Rattle.interval.specs.Overlap.{journalIntervalOverlap, journalCyclicIntervalOverlap, overlapParts};
+ghost use Rattle.interval.specs.Overlap.{sourceIntervalOverlap, sourceOverlapParts, sourceCyclicIntervalOverlap, neitherEmpty, journalIntervalOverlap, journalCyclicIntervalOverlap};
 
 // a less b, cut at 0.
 fn less(a: u64, b: u64) -> u64
@@ -46,18 +47,36 @@ impl JournalInterval {
         x - self.start < self.len
     }
 
-    // The plain test, counted without going round.
-    fn meets(self, other: JournalInterval) -> bool
-        ensures { λ r. ⌜ r ≡ journalIntervalOverlap self other ⌝ }
+    // Is neither empty?
+    fn neither_empty(self, other: JournalInterval) -> bool
+        ensures { λ r. ⌜ r ≡ neitherEmpty self other ⌝ }
+    {
+        let a = 0 < self.len;
+        let b = 0 < other.len;
+        a & b
+    }
+
+    // The source's plain test, counted without going round.
+    fn source_meets(self, other: JournalInterval) -> bool
+        ensures { λ r. ⌜ r ≡ sourceIntervalOverlap self other ⌝ }
     {
         let a = self.ends_after(other.start);
         let b = other.ends_after(self.start);
         a & b
     }
 
+    // The plain test.
+    pub fn meets(self, other: JournalInterval) -> bool
+        ensures { λ r. ⌜ r ≡ journalIntervalOverlap self other ⌝ }
+    {
+        let full = self.neither_empty(other);
+        let row = self.source_meets(other);
+        full & row
+    }
+
     // Does one of the two parts of an interval that passes the end meet a contiguous one?
-    fn parts_meet(self, other: JournalInterval, g: Geometry) -> bool
-        ensures { λ r. ⌜ r ≡ overlapParts g self other ⌝ }
+    fn source_parts_meet(self, other: JournalInterval, g: Geometry) -> bool
+        ensures { λ r. ⌜ r ≡ sourceOverlapParts g self other ⌝ }
     {
         let left = self.to_end(g);
         let front = JournalInterval {
@@ -69,14 +88,14 @@ impl JournalInterval {
             start: 0,
             len: rest,
         };
-        let a = front.meets(other);
-        let b = back.meets(other);
+        let a = front.source_meets(other);
+        let b = back.source_meets(other);
         a | b
     }
 
-    // The cyclic test.
-    pub fn overlaps(self, other: JournalInterval, g: Geometry) -> bool
-        ensures { λ r. ⌜ r ≡ journalCyclicIntervalOverlap g self other ⌝ }
+    // The source's cyclic test.
+    fn source_overlaps(self, other: JournalInterval, g: Geometry) -> bool
+        ensures { λ r. ⌜ r ≡ sourceCyclicIntervalOverlap g self other ⌝ }
     {
         let a = self.ends_after(g.blocks);
         let b = other.ends_after(g.blocks);
@@ -84,12 +103,21 @@ impl JournalInterval {
             if b {
                 return true;
             }
-            return self.parts_meet(other, g);
+            return self.source_parts_meet(other, g);
         }
         if b {
-            return other.parts_meet(self, g);
+            return other.source_parts_meet(self, g);
         }
-        self.meets(other)
+        self.source_meets(other)
+    }
+
+    // The cyclic test.
+    pub fn overlaps(self, other: JournalInterval, g: Geometry) -> bool
+        ensures { λ r. ⌜ r ≡ journalCyclicIntervalOverlap g self other ⌝ }
+    {
+        let full = self.neither_empty(other);
+        let round = self.source_overlaps(other, g);
+        full & round
     }
 
     // Do two contiguous intervals overlap?

@@ -1,6 +1,6 @@
 -- Question 2 of a system, beside that of its machine and of its disk: both slots well formed; the machine awaits exactly the ids that the
 -- disk holds, with the same slot, interval or new superblock; journal writes in flight overlap neither each other nor the selected interval.
--- A clause a line, in the order of `Joined` (source, Meets).
+-- A clause a line, in the order of `JoinedBy` (source, Meets).
 use mathlib.Core.Bool.{Bool}
 use lib.ListN.{take}
 use Rattle.laws.specs.Choice.{also}

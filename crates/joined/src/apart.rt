@@ -7,11 +7,8 @@ use superblock::MaybeSuperblock;
 use superblock::select_superblock;
 use tables::IntervalTable;
 ghost use mathlib.Core.Path.{_≡_};
-ghost use Prim.Native.Nat.{_+_};
-ghost use lib.Dec.{ltb};
 ghost use lib.ListN.{take, drop};
 ghost use Rattle.laws.specs.Fold.{every};
-ghost use Rattle.interval.specs.Overlap.{journalIntervalOverlap};
 ghost use Rattle.joined.specs.Apart.{slotWf, slotsWf, apartFrom, writesApart, clearOf, rowsClear, writesClear};
 
 const SIZE: usize = 16;
@@ -36,25 +33,6 @@ pub(crate) fn slots_wf(g: Geometry, slots: Slots) -> bool
     a & b
 }
 
-// Does the interval end after block x, counted without going round? Told by a difference, so that no sum can wrap.
-fn ends_after(v: JournalInterval, x: u64) -> bool
-    ensures { λ r. ⌜ r ≡ ltb x (v .start + v .len) ⌝ }
-{
-    if x < v.start {
-        return true;
-    }
-    x - v.start < v.len
-}
-
-// The plain overlap of two intervals.
-fn overlap(v: JournalInterval, w: JournalInterval) -> bool
-    ensures { λ r. ⌜ r ≡ journalIntervalOverlap v w ⌝ }
-{
-    let a = ends_after(v, w.start);
-    let b = ends_after(w, v.start);
-    a & b
-}
-
 // Does the interval overlap none of the rows in use from a place on?
 fn apart_from(v: JournalInterval, table: IntervalTable, from: usize) -> bool
     ensures { λ r. ⌜ r ≡ every (apartFrom v) (drop from (take (table .count) (table .intervals))) ⌝ }
@@ -64,7 +42,7 @@ fn apart_from(v: JournalInterval, table: IntervalTable, from: usize) -> bool
     let mut i = from;
     while i < n {
         let w = vs[i];
-        let meets = overlap(v, w);
+        let meets = v.meets(w);
         if meets {
             return false;
         }

@@ -81,7 +81,7 @@ impl Location {
         a | b
     }
 
-    // Do the two share a byte? A location of no bytes that lies strictly inside another overlaps it.
+    // Do the two share a byte? A location of no bytes that lies strictly inside another overlaps it, as in the source: request S-3 is about intervals.
     pub fn overlap(self, other: Location) -> bool
         ensures { λ r. ⌜ r ≡ overlap self other ⌝ }
     {

@@ -3,6 +3,7 @@ pub mod Cases
 pub mod Occurred
 pub mod Departs
 pub mod Initial
+pub mod Overlap
 pub mod Unique
 pub mod Answers
 pub mod Pieces

@@ -4,6 +4,7 @@ pub mod JournalCache
 pub mod JournalSystem
 pub mod Limits
 pub mod Meets
+pub mod Before
 pub mod Departures
 pub mod Within
 pub mod Laws

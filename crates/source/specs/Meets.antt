@@ -99,17 +99,21 @@ awaitedJournalWrites (M.Variables.LoadingOther s) = no-ids
 awaitedJournalWrites (M.Variables.LoadingSuperblock s) = no-ids
 
 -- machine and disk: both slots well formed; the machine awaits exactly the ids that the disk holds, with the same slot, interval or new
--- superblock; journal writes in flight overlap neither each other nor the selected interval
-pub record Joined (g : Geometry) (s : Y.Variables) : Type 0 where
+-- superblock; journal writes in flight overlap neither each other nor the selected interval, by a plain and a cyclic test of overlap
+pub record JoinedBy (plain : JournalInterval → JournalInterval → Bool) (cyclic : Geometry → JournalInterval → JournalInterval → Bool) (g : Geometry) (s : Y.Variables) : Type 0 where
   pub wf : WFDisk g (s .disk)
   pub superblock-reads : s .disk .reqReadSuperblocks ≡ awaitedSuperblockReads (s .machine)
   pub journal-reads : s .disk .reqReadJournals ≡ awaitedJournalReads g (s .machine)
   pub superblock-writes : s .disk .reqWriteSuperblocks ≡ awaitedSuperblockWrites (s .machine)
   pub journal-writes : keys (s .disk .reqWriteJournals) ≡ awaitedJournalWrites (s .machine)
   pub writes-apart : (id1 id2 : ReqId) (v1 v2 : JournalInterval) → s .disk .reqWriteJournals id1 ≡ some v1 → s .disk .reqWriteJournals id2 ≡ some v2
-      → journalIntervalOverlap v1 v2 ≡ true → id1 ≡ id2
+      → plain v1 v2 ≡ true → id1 ≡ id2
   pub writes-clear : (id : ReqId) (v : JournalInterval) → s .disk .reqWriteJournals id ≡ some v
-      → journalCyclicIntervalOverlap g v (persistentInterval g (s .disk) wf) ≡ false
+      → cyclic g v (persistentInterval g (s .disk) wf) ≡ false
+
+-- the tests are those in which an empty interval overlaps nothing (request S-3); before it they were the source's (Before)
+abbrev pub Joined : Geometry → Y.Variables → Type 0
+Joined = JoinedBy journalIntervalOverlap journalCyclicIntervalOverlap
 
 -- question 2, of a machine, of a disk and of a system
 pub record MachineMeets (g : Geometry) (L : Limits) (m : M.Variables) : Type 0 where

@@ -23,7 +23,7 @@ use Rattle.interval.specs.declared.MaybeSpanned.{MaybeSpanned}
 use Rattle.interval.specs.declared.MaybeSpanned.the-variants as maybe
 use Rattle.interval.specs.Answer.{maybeSpanned}
 use Rattle.interval.specs.Interval.{interval, validJournalInterval, JournalFrontInterval, JournalBackInterval, askInterval, askIntervals}
-use Rattle.interval.specs.Overlap.{journalIntervalOverlap, overlapParts, journalCyclicIntervalOverlap}
+use Rattle.interval.specs.Overlap.{sourceIntervalOverlap, sourceOverlapParts, sourceCyclicIntervalOverlap, journalCyclicIntervalOverlap}
 use Rattle.superblock.specs.declared.Superblock.{Superblock}
 use Rattle.superblock.specs.Superblock.{IncrementSuperblockCounter, increments1, SelectSuperblockIndex}
 use Rattle.range.specs.Form.{BlockSize, okLength, blocks, encode}
@@ -86,10 +86,10 @@ pub record Starred : Type 0 where
   pub counters-7-7 : selected 7 7 ≡ 0
   pub counters-7-9 : selected 7 9 ≡ 0
   pub counters-wrap : selected largest 0 ≡ 1
-  -- (6, 4) overlaps (1, 1); not (2, 4); (3, 0) overlaps (1, 4)
+  -- (6, 4) overlaps (1, 1); not (2, 4); (3, 0) does not overlap (1, 4)
   pub overlap-6-4-1-1 : overlap (interval 6 4) (interval 1 1) ≡ decision.Is true
   pub overlap-6-4-2-4 : overlap (interval 6 4) (interval 2 4) ≡ decision.Is false
-  pub overlap-3-0-1-4 : overlap (interval 3 0) (interval 1 4) ≡ decision.Is true
+  pub overlap-3-0-1-4 : overlap (interval 3 0) (interval 1 4) ≡ decision.Is false
   -- one entry, byte hexadecimal 41: bytes 01 00 01 00 01 41, then zeros; one block, and the seven others stay as they were
   pub entry-41 : (journal : List ℕ) → length journal ≡ 8 * 4096 → wrote 0x41 journal ≡ write.Blocks 1
   pub entry-41-bytes : (journal : List ℕ) → length journal ≡ 8 * 4096
@@ -106,7 +106,7 @@ unfolding spliceAround splice view cut
 put-41 journal h = simp (h, one-entry)
 
 pub starred : Starred
-unfolding also either ask andThen geometryOk askGeometry validJournalInterval askCircular askInterval askIntervals JournalPosAdd JournalFrontInterval JournalBackInterval SelectSuperblockIndex increments1 IncrementSuperblockCounter journalCyclicIntervalOverlap overlapParts journalIntervalOverlap view cut lengths sum
+unfolding also either ask andThen geometryOk askGeometry validJournalInterval askCircular askInterval askIntervals JournalPosAdd JournalFrontInterval JournalBackInterval SelectSuperblockIndex increments1 IncrementSuperblockCounter journalCyclicIntervalOverlap sourceCyclicIntervalOverlap sourceOverlapParts sourceIntervalOverlap view cut lengths sum
 starred =
     record {
       six-plus-two = refl;

@@ -9,7 +9,8 @@ use Rattle.layout.specs.declared.Geometry.{Geometry}
 use Rattle.interval.specs.declared.JournalInterval.{JournalInterval}
 use Rattle.interval.specs.Interval.{interval}
 use Rattle.interval.specs.Facts.{ContiguousJournalInterval, InCyclicRange}
-use Rattle.interval.specs.Overlap.{journalIntervalOverlap, journalCyclicIntervalOverlap}
+use Rattle.interval.specs.Overlap.{sourceCyclicIntervalOverlap, journalIntervalOverlap}
+use Rattle.interval.specs.Meets.{plain-same}
 use Rattle.superblock.specs.declared.Superblock.{Superblock}
 use Rattle.superblock.specs.Superblock.{SelectSuperblock}
 use Rattle.laws.specs.Sets.{keys, both, at, put}
@@ -19,6 +20,8 @@ use Rattle.source.specs.JournalDisk.{ReqId, ReqWriteSuperblockId}
 use Rattle.source.specs.JournalCache as M
 use Rattle.source.specs.Limits.{Limits}
 use Rattle.source.specs.Meets.{SystemMeets, awaitedSuperblockReads, awaitedJournalReads, awaitedSuperblockWrites, awaitedJournalWrites, newWrite}
+use Rattle.source.specs.Before.{MeetsBefore}
+use Rattle.source.specs.Laws.Overlap.{before-meets}
 use Rattle.source.specs.Laws.Kept.{HalvesMeet}
 use Rattle.history.specs.Ledger.{blocks, Kept, Ledger}
 use Rattle.history.specs.Journal.Slots.{Slots, picked-is}
@@ -29,12 +32,13 @@ writtenLen (M.Variables.Ready s) = s .writtenJournalLen
 writtenLen (M.Variables.LoadingOther s) = 0
 writtenLen (M.Variables.LoadingSuperblock s) = 0
 
--- a piece of a journal write in flight: it lies within what was written, and behind what is kept
+-- a piece of a journal write in flight: it lies within what was written, and behind what is kept, in the source's overlap too, in which an
+-- empty kept interval must not be strictly inside of it
 pub record Piece (g : Geometry) (kept : JournalInterval) (len : ℕ) (v : JournalInterval) : Type 0 where
   pub contiguous : ContiguousJournalInterval g v
   pub some-block : 0 < v .len
   pub inside : (i : ℕ) → i < g .blocks → InCyclicRange g i v → off (g .blocks) (kept .start) i < len
-  pub clear : journalCyclicIntervalOverlap g v kept ≡ false
+  pub clear : sourceCyclicIntervalOverlap g v kept ≡ false
 
 pub record Neat (g : Geometry) (C : Codec) (m : M.Variables) (d : D.Variables) (k : Kept) : Type 0 where
   pub reads : d .reqReadSuperblocks ≡ awaitedSuperblockReads m
@@ -78,10 +82,10 @@ module _ (g : Geometry) (C : Codec) (p : ℕ) where
   sim-journal-writes (M.Variables.LoadingOther s) d l z = λ i. keys (z .runs .0 .none-writing i)
   sim-journal-writes (M.Variables.Ready s) d l z = z .runs .ids
 
-  -- question 2
-  pub neat-meets : (L : Limits) (m : M.Variables) (d : D.Variables) (l : Ledger) → Sim g C p m d l → Neat g C m d (l .kept) → HalvesMeet g L (record { machine = m; disk = d })
-      → SystemMeets g L (record { machine = m; disk = d })
-  neat-meets L m d l z n h =
+  -- question 2, with the source's overlap too: no write in flight is empty, and what is kept is clear of them in the source
+  pub neat-before : (L : Limits) (m : M.Variables) (d : D.Variables) (l : Ledger) → Sim g C p m d l → Neat g C m d (l .kept) → HalvesMeet g L (record { machine = m; disk = d })
+      → MeetsBefore g L (record { machine = m; disk = d })
+  neat-before L m d l z n h =
       record {
         machine = h .machine;
         disk = h .disk;
@@ -96,8 +100,8 @@ module _ (g : Geometry) (C : Codec) (p : ℕ) where
               journal-reads = n .pages;
               superblock-writes = sim-superblock-writes m d l z;
               journal-writes = sim-journal-writes m d l z;
-              writes-apart = n .apart;
-              writes-clear = λ id v e. ap (λ (x : Superblock). journalCyclicIntervalOverlap g v (interval (x .journalStart) (x .journalLen))) is ∙ n .pieces id v e .clear;
+              writes-apart = λ id1 id2 v1 v2 e q o. n .apart id1 id2 v1 v2 e q (plain-same v1 v2 (n .pieces id1 v1 e .some-block) (n .pieces id2 v2 q .some-block) ∙ o);
+              writes-clear = λ id v e. ap (λ (x : Superblock). sourceCyclicIntervalOverlap g v (interval (x .journalStart) (x .journalLen))) is ∙ n .pieces id v e .clear;
             };
       }
     where
@@ -106,3 +110,7 @@ module _ (g : Geometry) (C : Codec) (p : ℕ) where
 
       is : SelectSuperblock (selected .values .first) (selected .values .second) ≡ superOf C (l .kept)
       is = picked-is (selected .values) ∙ ap (at (selected .values)) (selected .picks) ∙ selected .is
+
+  pub neat-meets : (L : Limits) (m : M.Variables) (d : D.Variables) (l : Ledger) → Sim g C p m d l → Neat g C m d (l .kept) → HalvesMeet g L (record { machine = m; disk = d })
+      → SystemMeets g L (record { machine = m; disk = d })
+  neat-meets L m d l z n h = before-meets g L (record { machine = m; disk = d }) (neat-before L m d l z n h)

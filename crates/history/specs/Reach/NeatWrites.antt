@@ -1,5 +1,5 @@
 -- A journal write keeps the writes in flight neat: its pieces lie behind all that was written, so they overlap none of the others nor what is
--- kept, an empty kept interval included.
+-- kept; and an empty kept interval is strictly inside none of them, so that they are clear of it in the source too.
 use Prim.Native.Nat.{ℕ, _+_, _-_, _≤_, _<_}
 use mathlib.Core.Bool.{true}
 use mathlib.Core.Path.{_≡_, sym, _∙_, ap, subst}
@@ -14,8 +14,8 @@ use Rattle.layout.specs.Laws.{pos-add-wrap}
 use Rattle.interval.specs.declared.JournalInterval.{JournalInterval}
 use Rattle.interval.specs.Interval.{interval}
 use Rattle.interval.specs.Facts.{ValidJournalInterval, ContiguousJournalInterval, InCyclicRange}
-use Rattle.interval.specs.Overlap.{journalIntervalOverlap, journalCyclicIntervalOverlap}
-use Rattle.interval.specs.Meets.{meets-facts, plain-symmetric, apart-clear, empty-clear, plain-shares}
+use Rattle.interval.specs.Overlap.{sourceCyclicIntervalOverlap, journalIntervalOverlap}
+use Rattle.interval.specs.Meets.{source-empty-clear, meets-facts, cyclic-same, plain-symmetric, plain-iff, apart-clear}
 use Rattle.laws.specs.Sets.{Map, bind, unbind, none-some, same-value, bind-here, bind-there, unbind-here, unbind-there}
 use Rattle.laws.specs.Maps.{Values, values-bind}
 use Rattle.source.specs.JournalDisk.{ReqId}
@@ -70,9 +70,10 @@ module _ (g : Geometry) (start len w b : ℕ) (h : start < g .blocks) (longer : 
         inside = λ i l r. behind-off g start w b i h fits l (part i r) .1;
         clear =
             split-le len 0
-            (λ z. ap (λ (x : ℕ). journalCyclicIntervalOverlap g v (interval start x)) (zero z) ∙ empty-clear g v start c h around)
+            (λ z. ap (λ (x : ℕ). sourceCyclicIntervalOverlap g v (interval start x)) (zero z) ∙ source-empty-clear g v start c h around)
             (λ z.
-            apart-clear g v (interval start len) (c .valid) kept-valid n z
+            sym (cyclic-same g v (interval start len) n z)
+            ∙ apart-clear g v (interval start len) (c .valid) kept-valid
             (λ s. behind-apart g start len w b h longer fits (record { block = s .block; block-in = s .block-in; first = part (s .block) (s .first); second = s .second })));
       }
     where
@@ -83,7 +84,7 @@ module _ (g : Geometry) (start len w b : ℕ) (h : start < g .blocks) (longer : 
   pub piece-apart : (v x : JournalInterval) → ContiguousJournalInterval g v → 0 < v .len → ((i : ℕ) → InCyclicRange g i v → InCyclicRange g i (interval (JournalPosAdd g start w) b))
       → Piece g (interval start len) w x → journalIntervalOverlap v x ≡ true → ⊥
   piece-apart v x c n part p o =
-      let s = plain-shares g v x c (p .contiguous) n (p .some-block) o in
+      let s = plain-iff g v x c (p .contiguous) .0 o in
       let far = behind-off g start w b (s .block) h fits (s .block-in) (part (s .block) (s .first)) .0 in
       let near = p .inside (s .block) (s .block-in) (s .second) in
       omega arith

@@ -4,15 +4,15 @@ use Rattle.laws.specs.Choice.{tests, also}
 use Rattle.interval.proofs.JournalInterval.meets.Statement.{statement}
 use Rattle.interval.proofs.JournalInterval.meets.Tie as tie
 
-ends-after-requires : tie.Need-ends-after-requires
-ends-after-requires c κs = search needs
+neither-empty-requires : tie.Need-neither-empty-requires
+neither-empty-requires c κs = search needs
 
-ends-after-requires-2 : tie.Need-ends-after-requires-2
-ends-after-requires-2 c κs = search needs
+source-meets-requires : tie.Need-source-meets-requires
+source-meets-requires c κs = search needs
 
 returns : tie.Need-returns
 unfolding journalIntervalOverlap also
-returns c = search (tests, ← c .ends-after2 .ensures, ← c .before .ends-after .ensures)
+returns c = search (tests, ← c .source-meets .ensures, ← c .before .neither-empty .ensures)
 
 pub meets-spec : {M : Type 1} → statement M
-meets-spec = tie.close (tie.spec ends-after-requires ends-after-requires-2 returns)
+meets-spec = tie.close (tie.spec neither-empty-requires source-meets-requires returns)

@@ -34,14 +34,14 @@ mul-w c = let l = intervals-long (c .before .before .before .before) in search n
 array-copy-out-w : tie.Need-array-copy-out-w Inv-loop μ-loop
 array-copy-out-w c = let l = intervals-long (c .before .before .before .before) in omega arith
 
-overlap-requires : tie.Need-overlap-requires Inv-loop μ-loop
-overlap-requires c κs = search needs
+meets-requires : tie.Need-meets-requires Inv-loop μ-loop
+meets-requires c κs = search needs
 
 returns : tie.Need-returns Inv-loop μ-loop
 returns c =
     let l = c .before .before .before .before in
     let a = l .before .before .before .args in
-    walk-no (apartFrom (a .v)) _ _ _ _ (l .loop .inv .0) (l .loop .inv .1) _ (c .before .before .before .loop-test .taken) (ap not (sym (c .before .overlap .ensures) ∙ c .if1 .taken))
+    walk-no (apartFrom (a .v)) _ _ _ _ (l .loop .inv .0) (l .loop .inv .1) _ (c .before .before .before .loop-test .taken) (ap not (sym (c .before .meets .ensures) ∙ c .if1 .taken))
     ∙ cut-front (λ (us : List JournalInterval). every (apartFrom (a .v)) (drop (a .from) us)) (a .table .intervals) (a .table .count) _ 16 (intervals-long (l .before .before .before)) (l .before .lesser .ensures)
 
 add-i : tie.Need-add-i Inv-loop μ-loop
@@ -54,7 +54,7 @@ loop-again : tie.Need-loop-again Inv-loop μ-loop
 loop-again c =
     let l = c .before .before .before .before in
     let a = l .before .before .before .args in
-    (l .loop .inv .0, walk-yes (apartFrom (a .v)) _ _ _ _ (l .loop .inv .0) (l .loop .inv .1) _ (c .before .before .before .loop-test .taken) (ap not (sym (c .before .overlap .ensures) ∙ c .if1 .left)))
+    (l .loop .inv .0, walk-yes (apartFrom (a .v)) _ _ _ _ (l .loop .inv .0) (l .loop .inv .1) _ (c .before .before .before .loop-test .taken) (ap not (sym (c .before .meets .ensures) ∙ c .if1 .left)))
 
 returns-2 : tie.Need-returns-2 Inv-loop μ-loop
 returns-2 c =
@@ -73,7 +73,7 @@ apart-from-spec =
     loop-holds
     mul-w
     array-copy-out-w
-    overlap-requires
+    meets-requires
     returns
     add-i
     loop-less
