@@ -1,5 +1,6 @@
 pub mod Ledger
 pub mod Statement
+pub mod Before
 pub mod Demand
 pub mod Calls
 pub mod Journal

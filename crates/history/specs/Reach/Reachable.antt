@@ -87,7 +87,7 @@ module _ (g : Geometry) (C : Codec) (p : ℕ) where
       to writes e pieces lone = by-neat g C _ m′ _ d′ (l .kept) (c .next) e (record { reads = n .reads; pages = n .pages; pieces = pieces; apart = lone })
 
   -- a machine's `Init`, on a disk at rest
-  neat-init : (m : M.Variables) (d : D.Variables) (k : Kept) → M.Init m → d .reqReadSuperblocks ≡ both (λ i. false) → d .reqReadJournals ≡ no-keys → d .reqWriteJournals ≡ no-keys → Neat g C m d k
+  pub neat-init : (m : M.Variables) (d : D.Variables) (k : Kept) → M.Init m → d .reqReadSuperblocks ≡ both (λ i. false) → d .reqReadJournals ≡ no-keys → d .reqWriteJournals ≡ no-keys → Neat g C m d k
   neat-init m d k e a b c =
       by-neat g C (M.Variables.LoadingSuperblock M.initial) m d d k e refl
       (record {
@@ -98,7 +98,7 @@ module _ (g : Geometry) (C : Codec) (p : ℕ) where
       })
 
 module _ (g : Geometry) (C : Codec) (L : Limits) (p : ℕ) (s t : Y.Variables) (l : Ledger) (z : Sim g C p (s .machine) (s .disk) l) (n : Neat g C (s .machine) (s .disk) (l .kept)) where
-  neat-tied : (x : Call) (e : Event) → Tied x e → Allowed g C L s t e → Neat g C (t .machine) (t .disk) (tell g C x l .kept)
+  pub neat-tied : (x : Call) (e : Event) → Tied x e → Allowed g C L s t e → Neat g C (t .machine) (t .disk) (tell g C x l .kept)
   unfolding tell
   neat-tied x e (tied-write {jr = jr}) a = neat-write g C p jr (s .machine) (t .machine) (s .disk) (t .disk) l _ z n (a .step .machine) (a .step .disk)
   neat-tied x e tied-written a = neat-write-resp g C (s .machine) (t .machine) (s .disk) (t .disk) (l .kept) _ n (a .step .machine) (a .step .disk)
