@@ -25,9 +25,9 @@ impl Interval {
         self.start + self.len
     }
 
-    /// Overlap on a line; an empty interval strictly inside another overlaps it.
-    fn meets(self, other: Interval) -> bool {
-        self.end() > other.start && other.end() > self.start
+    /// Overlap on a line, of contiguous intervals; an empty one overlaps nothing (S-3).
+    pub fn meets(self, other: Interval) -> bool {
+        self.len > 0 && other.len > 0 && self.end() > other.start && other.end() > self.start
     }
 }
 
@@ -110,6 +110,7 @@ impl Geometry {
         inside(a.start) || inside(a.start + self.n)
     }
 
+    /// Overlap on the ring; an empty interval overlaps nothing, and one that wraps isn't empty.
     pub fn overlap(self, a: Interval, b: Interval) -> bool {
         let parts = |i: Interval| (self.front(i).into_iter().chain(self.back(i))).collect::<Vec<_>>();
         match (self.wraps(a), self.wraps(b)) {

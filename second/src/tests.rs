@@ -63,7 +63,7 @@ fn overlaps() {
     };
     assert!(overlap((6, 4), (1, 1)));
     assert!(!overlap((6, 4), (2, 4)));
-    assert!(overlap((3, 0), (1, 4)));
+    assert!(!overlap((3, 0), (1, 4)), "empty: S-3");
     assert!(!overlap((0, 0), (6, 4)), "empty at block 0 of one that wraps");
     assert!(overlap((7, 2), (5, 4)));
     assert!(g().subinterval(Interval::new(0, 2), Interval::new(6, 5)));
@@ -73,6 +73,21 @@ fn overlaps() {
             g().contains(Interval::new(6, 5), i),
             g().ring(Interval::new(6, 5)).any(|b| b as u64 == i)
         );
+    }
+}
+
+/// Each pair of valid intervals overlaps exactly where it has a block in common: no empty one does.
+#[test]
+fn overlap_is_a_common_block() {
+    let intervals = || (0..8).flat_map(|start| (0..=8).map(move |len| Interval::new(start, len)));
+    for (a, b) in intervals().flat_map(|a| intervals().map(move |b| (a, b))) {
+        let common = g().ring(a).any(|block| g().contains(b, block as u64));
+        assert_eq!(g().overlap(a, b), common, "{a:?} and {b:?}");
+        assert_eq!(g().overlap(b, a), common, "{b:?} and {a:?}");
+        assert!(!common || (a.len > 0 && b.len > 0));
+        if g().contiguous(a) && g().contiguous(b) {
+            assert_eq!([a.meets(b), b.meets(a)], [common; 2], "{a:?} and {b:?} on a line");
+        }
     }
 }
 
