@@ -17,6 +17,7 @@ pub mod sector_conformance;
 pub mod sector_damage;
 pub mod sector_inputs;
 pub mod sectors;
+pub mod sound;
 pub mod store;
 pub mod superblock;
 pub mod text;

@@ -5,7 +5,7 @@ use crate::layout::{Geometry, Location};
 use crate::machine::Machine;
 use crate::range::Entry;
 use crate::superblock::Superblock;
-use crate::{ask, Refusal};
+use crate::{ask, sound, Refusal};
 
 #[derive(Clone, Debug, PartialEq, Eq)]
 pub enum Step {
@@ -47,10 +47,9 @@ impl Store {
     }
 
     /// One step: the machine is asked all questions, then the disk; only then is anything
-    /// altered. Question 1 and all of question 2 but the slots' form hold by construction.
+    /// altered. Question 1 holds by construction; from a store that question 2 passes a step leads to another.
     pub fn step(&mut self, step: &Step) -> Result<(), Refusal> {
-        let well_formed = |s: &Option<Superblock>| s.is_some_and(|s| s.well_formed(self.geometry));
-        ask(self.disk.slots.iter().all(well_formed), Refusal::State)?;
+        ask(sound::system(self), Refusal::State)?;
         match step {
             Step::Land { which } => self.disk.land(*which)?,
             Step::Crash => self.crash(None),

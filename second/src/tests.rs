@@ -12,12 +12,12 @@ use crate::days::{Day, Options, Rng};
 use crate::disk::{Disk, Journal, Op};
 use crate::layout::{Geometry, Interval, Location, BLOCK};
 use crate::ledger::Ledger;
-use crate::machine::{Phase, Piece, Slot};
+use crate::machine::{Phase, Piece, Ready, Slot};
 use crate::range::{self, Entry};
 use crate::store::{Step, Store};
 use crate::superblock::Superblock;
 use crate::text::{parse_disk, parse_step, LONGEST_LINE};
-use crate::{conformance, sector_conformance, trace, Refusal};
+use crate::{conformance, sector_conformance, sound, trace, Refusal};
 
 fn g() -> Geometry {
     Geometry::new(8, 4096).unwrap()
@@ -286,49 +286,48 @@ fn reload(store: &mut Store) {
     assert_eq!(play(store, "f2"), [0]);
 }
 
-/// Question 2 of a system: the machine awaits what the disk holds, and writes in flight lie apart.
-fn sound(store: &Store) -> bool {
-    let (g, d) = (store.geometry, &store.disk);
-    let slot = |which: usize| d.superblock_reads[which].iter().copied().collect::<Vec<_>>();
-    let reads: Vec<_> = d.journal_reads.iter().map(|(id, i)| (*id, *i)).collect();
-    let writes: Vec<_> = d.journal_writes.iter().map(|(id, i)| (*id, *i)).collect();
-    let (mut asked, mut awaited, mut written) = ([vec![], vec![]], vec![], Vec::<u64>::new());
-    let mut landing = [None; 2];
-    match &store.machine.phase {
-        Phase::Superblocks(slots) => {
-            for (which, slot) in slots.iter().enumerate() {
-                match slot {
-                    Slot::Asked(id) => asked[which].push(*id),
-                    Slot::Read(s) if Some(*s) != d.slots[which] => return false,
-                    _ => {}
-                }
-            }
-        }
-        Phase::Journal(l) => {
-            for (piece, interval) in l.pieces.iter().zip(l.intervals(g)) {
-                if let Piece::Asked(id) = piece {
-                    awaited.push((*id, interval.unwrap()));
-                }
-            }
-            awaited.sort_by_key(|(id, _)| *id);
-        }
-        Phase::Ready(r) => {
-            written.extend(&r.outstanding);
-            landing[1 - r.which] = r.commit.map(|c| (c.id, c.superblock));
-            let selected = Superblock::select(&d.slots.map(Option::unwrap));
-            let journal = d.slots[selected].unwrap().journal();
-            for (k, (_, i)) in writes.iter().enumerate() {
-                let others = writes[..k].iter().any(|(_, j)| g.overlap(*i, *j));
-                if others || !g.contiguous(*i) || g.ring(journal).any(|b| g.contains(*i, b as u64)) {
-                    return false;
-                }
-            }
-        }
-    }
-    asked == [slot(0), slot(1)]
-        && awaited == reads
-        && written == writes.iter().map(|(id, _)| *id).collect::<Vec<_>>()
-        && landing == d.superblock_writes
+/// A store that is handed in is asked the whole of question 2.
+#[test]
+fn states_that_are_turned_away() {
+    let handed = |alter: fn(&mut Store, &mut Ready)| {
+        let mut store = loaded();
+        assert_eq!(play(&mut store, "add 41, wj 1, freeze, loc 45056 1"), [0; 4]);
+        let Phase::Ready(mut ready) = store.machine.phase.clone() else { panic!("not ready") };
+        alter(&mut store, &mut ready);
+        store.machine.phase = Phase::Ready(ready);
+        let before = store.clone();
+        let answer = play(&mut store, "noop")[0];
+        assert_eq!(store, before);
+        answer
+    };
+    assert_eq!(handed(|_, _| {}), 0);
+    let wrong: [fn(&mut Store, &mut Ready); 14] = [
+        |s, _| s.disk.slots[0] = None,
+        |_, r| r.superblock.start = 8,
+        |_, r| r.which = 2,
+        |_, r| r.written = 9,
+        |_, r| r.frozen_position = 2,
+        |_, r| r.frozen_loc = Some(Location { addr: 45_057, len: 1 }),
+        |_, r| r.is_frozen = false,
+        |_, r| r.memory = vec![vec![]],
+        |_, r| r.memory = vec![vec![7]; 1025],
+        |_, r| r.replayed = 1,
+        |_, r| r.outstanding.extend([2]),
+        |s, _| s.disk.journal_writes.clear(),
+        |s, r| {
+            r.outstanding.extend(2..=17);
+            s.disk.journal_writes.extend((2..=17).map(|id| (id, Interval::new(0, 0))));
+        },
+        |s, _| s.disk.superblock_writes[0] = Some((5, superblock(1))),
+    ];
+    assert_eq!(wrong.map(handed), [2; 14]);
+}
+
+/// What the machine has read of a slot lies there still.
+fn slots_as_read(store: &Store) -> bool {
+    let Phase::Superblocks(slots) = &store.machine.phase else { return true };
+    let mut slots = slots.iter().zip(store.disk.slots);
+    slots.all(|(slot, there)| !matches!(slot, Slot::Read(s) if Some(*s) != there))
 }
 
 /// Demand 3: after a crash with any picture, a load shows the ledger. A refusal alters nothing.
@@ -347,7 +346,7 @@ fn loads_show_the_ledger() {
             let before = store.clone();
             let refused = store.step(&step).is_err();
             assert!(!refused || store == before, "seed {seed}, step {n}: a refusal altered the store");
-            assert!(sound(&store), "seed {seed}, step {n}");
+            assert!(sound::system(&store) && slots_as_read(&store), "seed {seed}, step {n}");
             ledger.feed(&step, refused);
             if n % 10 == 0 {
                 let picture = Journal {
