@@ -6,6 +6,7 @@ pub mod conformance;
 pub mod coverage;
 pub mod days;
 pub mod disk;
+pub mod handed;
 pub mod layout;
 pub mod ledger;
 pub mod machine;

@@ -125,7 +125,8 @@ impl Loading {
 }
 
 impl Ready {
-    fn loaded(loading: &Loading, replay: Vec<Entry>) -> Self {
+    /// As a load leaves it: nothing pending, nothing in flight.
+    pub fn loaded(loading: &Loading, replay: Vec<Entry>) -> Self {
         Ready {
             superblock: loading.superblock,
             which: loading.which,

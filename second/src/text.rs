@@ -14,13 +14,17 @@ pub const MAX_BLOCKS: u64 = 32;
 pub const LONGEST_LINE: usize = 16_384;
 
 /// A line's words: blanks between them are spaces, tabs, form feeds and carriage returns.
-fn words(line: &[u8]) -> Option<std::str::SplitAsciiWhitespace<'_>> {
-    let short = line.len() <= LONGEST_LINE;
-    short.then(|| std::str::from_utf8(line).ok())?.map(str::split_ascii_whitespace)
+pub fn words(line: &[u8]) -> Option<std::str::SplitAsciiWhitespace<'_>> {
+    std::str::from_utf8(line).ok().map(str::split_ascii_whitespace)
+}
+
+/// The words of a line that isn't too long for a disk or a step.
+fn short_words(line: &[u8]) -> Option<std::str::SplitAsciiWhitespace<'_>> {
+    words(line).filter(|_| line.len() <= LONGEST_LINE)
 }
 
 /// Plain decimal digits, as one 64-bit number.
-fn number(word: &str) -> Option<u64> {
+pub fn number(word: &str) -> Option<u64> {
     word.bytes().all(|b| b.is_ascii_digit()).then(|| word.parse().ok())?
 }
 
@@ -36,7 +40,7 @@ pub fn entry(word: &str) -> Option<Entry> {
 
 /// `disk N T`, then the five numbers of each superblock.
 pub fn parse_disk(line: &[u8]) -> Option<(Geometry, [Superblock; 2])> {
-    let mut words = words(line)?;
+    let mut words = short_words(line)?;
     if words.next()? != "disk" {
         return None;
     }
@@ -61,7 +65,7 @@ pub fn entries_line(entries: &[Entry]) -> String {
 }
 
 pub fn parse_step(line: &[u8]) -> Option<Step> {
-    let mut words = words(line)?;
+    let mut words = short_words(line)?;
     let name = words.next()?;
     if let "add" | "replay" = name {
         let entries = words.map(entry).collect::<Option<_>>()?;

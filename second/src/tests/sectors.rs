@@ -30,14 +30,14 @@ fn rows(input: &[u8]) -> String {
 }
 
 /// Bytes one at a time, an interrupted read before each; then the input's end, or a failure.
-struct Slow<'a> {
+pub(super) struct Slow<'a> {
     bytes: &'a [u8],
     fails: bool,
     interrupted: bool,
 }
 
 impl<'a> Slow<'a> {
-    fn new(bytes: &'a [u8], fails: bool) -> Self {
+    pub(super) fn new(bytes: &'a [u8], fails: bool) -> Self {
         Slow { bytes, fails, interrupted: false }
     }
 }
@@ -57,8 +57,8 @@ impl Read for Slow<'_> {
 }
 
 /// Takes some bytes, then fails; or takes all and fails when it is flushed.
-struct Full {
-    room: usize,
+pub(super) struct Full {
+    pub(super) room: usize,
 }
 
 impl Write for Full {
