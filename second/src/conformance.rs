@@ -2,6 +2,7 @@
 
 use crate::coverage::STEPS;
 use crate::days::{Day, Options};
+use crate::handed_conformance;
 use crate::range::Entry;
 use crate::scripts::DAYS;
 use crate::sector_conformance;
@@ -172,7 +173,9 @@ fn between(old: &str, name: &str, text: &str) -> Option<String> {
     Some(format!("{head}{begin}\n{text}{end}{tail}"))
 }
 
-/// The page with its tables made anew: those of the days, and that of the sectors.
+/// The page with its tables made anew: those of the days, of the sectors and of the handed stores.
 pub fn page(old: &str) -> Option<String> {
-    between(&between(old, "tables", &tables())?, "sectors", &sector_conformance::table())
+    let page = between(old, "tables", &tables())?;
+    let page = between(&page, "sectors", &sector_conformance::table())?;
+    between(&page, "handed", &handed_conformance::table())
 }

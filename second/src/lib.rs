@@ -7,6 +7,8 @@ pub mod coverage;
 pub mod days;
 pub mod disk;
 pub mod handed;
+mod handed_cases;
+pub mod handed_conformance;
 pub mod layout;
 pub mod ledger;
 pub mod machine;

@@ -1,24 +1,31 @@
-//! Writes the conformance days and sectors, their rows, and the tables of their page: `conformance FOLDER`.
+//! Writes the conformance days, sectors and handed stores, their rows, and the tables of their page:
+//! `conformance FOLDER`.
 #![forbid(unsafe_code)]
 
 use std::path::Path;
 use std::{fs, io};
 
 use second::conformance::{days, page};
-use second::sector_conformance::cases;
+use second::{handed_conformance, sector_conformance};
+
+/// An input and its rows.
+fn write(folder: &Path, name: &str, input: (&str, &[u8]), rows: &str) -> io::Result<()> {
+    fs::create_dir_all(folder)?;
+    fs::write(folder.join(format!("{name}.{}", input.0)), input.1)?;
+    fs::write(folder.join(format!("{name}.rows")), rows)
+}
 
 fn main() -> io::Result<()> {
     let folder = std::env::args().nth(1).ok_or(io::Error::other("conformance FOLDER"))?;
     let folder = Path::new(&folder);
-    fs::create_dir_all(folder.join("days"))?;
     for day in days() {
-        fs::write(folder.join("days").join(format!("{}.day", day.name)), day.input)?;
-        fs::write(folder.join("days").join(format!("{}.rows", day.name)), day.rows)?;
+        write(&folder.join("days"), day.name, ("day", day.input.as_bytes()), &day.rows)?;
     }
-    fs::create_dir_all(folder.join("sectors"))?;
-    for case in cases() {
-        fs::write(folder.join("sectors").join(format!("{}.bytes", case.name)), case.input)?;
-        fs::write(folder.join("sectors").join(format!("{}.rows", case.name)), case.rows)?;
+    for case in sector_conformance::cases() {
+        write(&folder.join("sectors"), case.name, ("bytes", &case.input), &case.rows)?;
+    }
+    for case in handed_conformance::cases() {
+        write(&folder.join("handed"), case.name, ("lines", case.input.as_bytes()), &case.rows)?;
     }
     let readme = folder.join("README.md");
     let text =
