@@ -21,8 +21,12 @@ pub const LONGEST_INPUT: usize = 65_536;
 /// The write that is answered.
 const ANSWERED: u64 = 1;
 
+/// N and T.
+pub const BLOCKS: u64 = 8;
+const TABLE: u64 = 4096;
+
 pub fn geometry() -> Geometry {
-    Geometry::new(8, 4096).expect("N is 8, T is 4,096")
+    Geometry::new(BLOCKS, TABLE).expect("N and T are in range")
 }
 
 /// What a line says of its store: the selected interval, and the journal writes with the ids 1, 2, 3 ..

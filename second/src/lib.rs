@@ -9,6 +9,8 @@ pub mod disk;
 pub mod handed;
 mod handed_cases;
 pub mod handed_conformance;
+pub mod handed_inputs;
+pub mod handed_situations;
 pub mod layout;
 pub mod ledger;
 pub mod machine;

@@ -4,7 +4,9 @@ use std::collections::BTreeSet;
 use std::io::Read;
 
 use super::sectors::{Full, Slow};
-use crate::handed::{geometry, rows, run, Handed, HEADER, LONGEST_INPUT};
+use crate::handed::{geometry, lines, rows, run, Handed, ANSWERS, HEADER, LONGEST_INPUT};
+use crate::handed_inputs::{self, LINES};
+use crate::handed_situations::{met, situations};
 use crate::layout::Interval;
 
 /// Both outputs for an input that can be read and rows that can be written.
@@ -114,4 +116,22 @@ fn rows_that_cannot_be_written() {
         assert_eq!(errors, b"handed: the rows can't be written\n", "room for {room}");
     }
     assert!(!run(&b""[..], Full { room: 0 }, Full { room: 0 }));
+}
+
+/// The lines of two hundred seeds meet each situation and each pair of answers, and no other pair.
+#[test]
+fn random_lines() {
+    let (mut seen, mut answers) = (BTreeSet::new(), BTreeSet::new());
+    for seed in 1..=200 {
+        let texts = handed_inputs::lines(seed);
+        let input = handed_inputs::input(seed, &texts);
+        assert!(input.len() < LONGEST_INPUT / 2, "seed {seed}: {} bytes", input.len());
+        assert!(lines(&input).eq(texts.iter().map(|text| text.as_bytes())) && texts.len() == LINES);
+        seen.extend(texts.iter().flat_map(|text| met(text)));
+        let rows = rows(&input);
+        let pairs = rows.lines().skip(1).filter_map(|row| row.split_once(' '));
+        answers.extend(pairs.filter(|(first, _)| *first != "line").map(|(_, pair)| pair.to_string()));
+    }
+    assert_eq!(seen, situations().into_iter().collect());
+    assert_eq!(answers, ANSWERS.map(String::from).into());
 }
