@@ -7,7 +7,7 @@ use crate::handed_conformance::Source;
 pub(crate) const CASES: &[Source] = &[
 ("page", "the lines of docs/HANDED.md", &[
     ("1 4 3 0", "0 0"), ("1 4 3 1", "0 2"), ("3 0 1 4", "0 0"), ("6 0 1 4 2 1", "0 2"), ("6 0 1 4 3 0", "0 0"), ("6 5 0 0", "0 0"),
-    ("1 4", "5 5"), ("8 0 0 1", "0 2"), ("0 0 8 1", "2 2"), ("0 0 7 2", "2 2"), ("1 4 3", "-"),
+    ("1 4", "5 5"), ("8 0 0 1", "0 2"), ("0 0 8 1", "2 2"), ("0 0 7 2", "2 2"), ("1 4 3", "-"), ("8 0", "5 2"),
 ]),
 // S-3: an empty interval overlaps nothing. Each stands beside one of a block, which is refused or clear.
 ("empty-write", "a write at each block, of no block (odd lines) and of one (even lines), the selected interval being (1, 4): of its blocks only those of one are refused", &[
