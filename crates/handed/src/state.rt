@@ -4,7 +4,6 @@ use disk::Disk;
 use interval::JournalInterval;
 use layout::Geometry;
 use layout::Location;
-use machine::Kind;
 use machine::Machine;
 use memory::Count;
 use ready::Commit;
@@ -90,24 +89,10 @@ fn ready(h: Handed) -> Ready {
     }
 }
 
-// At Ready; the records of the other kinds are no part of the state.
-fn machine(h: Handed) -> Machine {
-    let ready = ready(h);
-    let first = Machine::initial();
-    let superblocks = first.superblocks;
-    let other = first.other;
-    let sync = first.sync;
-    Machine {
-        kind: Kind::Ready,
-        superblocks,
-        other,
-        ready,
-        sync,
-    }
-}
-
 pub(crate) fn store(h: Handed) -> Store {
-    let machine = machine(h);
+    let work = ready(h);
+    let first = Machine::initial();
+    let machine = first.to_ready(work);
     let disk = disk(h);
     Store { machine, disk }
 }

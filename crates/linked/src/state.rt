@@ -1,7 +1,6 @@
 // A machine at work, made of 16 numbers that a caller keeps.
 use layout::Geometry;
 use layout::Location;
-use machine::Kind;
 use machine::Machine;
 use memory::Count;
 use ready::Commit;
@@ -107,14 +106,5 @@ pub(crate) fn machine_of(m: &[u64]) -> Machine
 {
     let ready = ready_of(m);
     let first = Machine::initial();
-    let superblocks = first.superblocks;
-    let other = first.other;
-    let sync = first.sync;
-    Machine {
-        kind: Kind::Ready,
-        superblocks,
-        other,
-        ready,
-        sync,
-    }
+    first.to_ready(ready)
 }

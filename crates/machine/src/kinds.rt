@@ -118,7 +118,7 @@ impl Machine {
         }
     }
 
-    pub(crate) fn to_ready(self, ready: Ready) -> Machine
+    pub fn to_ready(self, ready: Ready) -> Machine
         ensures { λ r. ⌜ r ≡ toReady self ready ⌝ }
     {
         let superblocks = self.superblocks;

@@ -2,6 +2,7 @@
 // The public face:
 //   Machine, Kind                     the record: a kind beside the records of the three kinds, and the sync requests
 //   Machine::initial                  000's Init
+//   Machine::to_ready                 a machine at work by any record, for a caller that hands one in
 //   Machine::ask, Machine::ask_state  questions 1 and 2; what was found in pending memory
 //   the steps, in the order of 000's Step: write_back_journal_req, write_back_journal_resp, write_back_superblock_req_advance_log,
 //   write_back_superblock_req_advance_location, write_back_superblock_resp, page_in_journal_req, page_in_journal_resp,

@@ -9,9 +9,12 @@ ready-of-requires c κs = search needs
 initial-requires : tie.Need-initial-requires
 initial-requires c κs = search needs
 
+to-ready-requires : tie.Need-to-ready-requires
+to-ready-requires c κs = search needs
+
 returns : tie.Need-returns
 unfolding machineOf
 returns c = cc
 
 pub machine-of-spec : {M : Type 1} → statement M
-machine-of-spec = tie.close (tie.spec ready-of-requires initial-requires returns)
+machine-of-spec = tie.close (tie.spec ready-of-requires initial-requires to-ready-requires returns)
