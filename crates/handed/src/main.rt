@@ -6,7 +6,6 @@ mod line;
 mod row;
 mod state;
 
-use input::Input;
 use libc::STDERR_FILENO;
 use libc::STDOUT_FILENO;
 ghost use mathlib.Core.Path.{_≡_};

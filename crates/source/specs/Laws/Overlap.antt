@@ -50,10 +50,11 @@ before-meets g L s h =
       joined = joined-by-fewer g s (λ a b o. plain-source a b o .2) (cyclic-clear g) (h .joined);
     }
 
--- a state that met all else of question 2, and was turned away only for overlaps of empty intervals, meets it now
+-- one of the two is empty
 abbrev pub OneEmpty : JournalInterval → JournalInterval → Type 0
 OneEmpty a b = (a .len ≡ 0) ⊎ (b .len ≡ 0)
 
+-- a state that met all else of question 2 (`rest`), and was turned away only for overlaps of empty intervals, meets it now
 pub only-empty-meets : (g : Geometry) (L : Limits) (s : Y.Variables) → MachineMeets g L (s .machine) → DiskMeets g L (s .disk)
     → (rest : JoinedBy (λ a b. false) (λ g a b. false) g s)
     → ((id1 id2 : ReqId) (v1 v2 : JournalInterval) → s .disk .reqWriteJournals id1 ≡ some v1 → s .disk .reqWriteJournals id2 ≡ some v2 → sourceIntervalOverlap v1 v2 ≡ true
