@@ -1,4 +1,3 @@
-pub mod Can
 pub mod Setting
 pub mod Walk
 pub mod Morning

@@ -33,7 +33,7 @@ use Rattle.ready.specs.declared.JournalWrite.{JournalWrite}
 use Rattle.ready.specs.declared.JournalWrite.the-variants as write
 use Rattle.ready.specs.declared.NewSuperblock.{NewSuperblock}
 use Rattle.ready.specs.declared.NewSuperblock.the-variants as new
-use Rattle.ready.specs.State.{count, noneFrozen, awaitsId, commitSlot, replayLeft, sent, left}
+use Rattle.ready.specs.State.{count, noneFrozen, noneInMemory, awaitsId, commitSlot, replayLeft, sent, left}
 use Rattle.ready.specs.JournalSteps.{sentBlocks, askWriteBackJournalReq, writeBackJournalReq, writeBackJournalReqNext, writeBackJournalRespNext}
 use Rattle.ready.specs.CommitSteps.{askAdvanceLog, advancedLog, advanceLog, advanceLogNext, askAdvanceLocation, advancedLocation, advanceLocation, advanceLocationNext, writeBackSuperblockRespNext}
 use Rattle.ready.specs.FreezeSteps.{askFreeze, freezeNext, askReceiveFrozenLoc, receiveFrozenLocNext}
@@ -42,7 +42,8 @@ use Rattle.machine.specs.declared.Machine.{Machine}
 use Rattle.machine.specs.declared.journal_steps.SentRange.{SentRange}
 use Rattle.machine.specs.Machine.{limitsOf, noSuperblock, byKind, askReady, withReady, withSync}
 
--- sync requests: State3 goes to State2 where entries are frozen or sent from memory, State2 to State1 where a commit is on disk
+-- sync requests: State3 goes to State2 where entries are frozen or sent from memory, or a commit is requested with none there; State2 goes to
+-- State1 where a commit is on disk
 abbrev pub syncs3to2 : SyncTable → SyncTable
 syncs3to2 t = movedSyncs 3 2 t
 
@@ -62,8 +63,9 @@ sentStart g m = JournalPosAdd g (m .ready .superblock .journalStart) (m .ready .
 abbrev pub writeBackJournalReqOp : Geometry → Machine → ℕ → MaybeId → Bodies → DiskOp
 writeBackJournalReqOp g m id1 id2 b = op.ReqWriteJournal id1 id2 (sentStart g m) (sentBlocks (m .ready) b)
 
+-- what is sent, a range or a commit, moves sync requests at State3, where it moves any
 unfoldable pub sentSync : Bool → SyncTable → SyncTable
-sentSync memory t = cond memory (syncs3to2 t) t
+sentSync moves t = cond moves (syncs3to2 t) t
 
 unfoldable pub writtenMachine : Machine → ℕ → MaybeId → ℕ → Machine
 writtenMachine m id1 id2 written =
@@ -116,12 +118,13 @@ writeBackJournalRespOp id = op.RespWriteJournal id
 unfoldable pub writeBackJournalRespMachine : Machine → ℕ → Machine
 writeBackJournalRespMachine m id = byKind {A = Machine} (m .kind) m m (withReady m (writeBackJournalRespNext (m .ready) id))
 
--- both commits: the other slot gets the new superblock. What a request does to the sync requests is said here once: nothing
+-- both commits: the other slot gets the new superblock. What a request does to the sync requests is said here once: where no entry is in memory,
+-- those at State3 go to State2
 abbrev pub commitOp : Machine → ℕ → Superblock → DiskOp
 commitOp m id new = op.ReqWriteSuperblock id (commitSlot (m .ready)) new
 
 unfoldable pub commitRequested : Machine → Ready → Machine
-commitRequested m ready = withReady m ready
+commitRequested m ready = withSync (withReady m ready) (sentSync (noneInMemory (m .ready .entries)) (m .sync))
 
 -- the superblock that is sent as the code finds it, by its questions: a no of question 3 comes first
 abbrev pub newAfter : ℕ → NewSuperblock → NewSuperblock

@@ -2,6 +2,7 @@
 use super::Kind;
 use super::Machine;
 use super::MachineStepped;
+use super::journal_steps::sent_sync;
 use super::kinds::no_superblock;
 use layout::Geometry;
 use loading::ask_which;
@@ -13,7 +14,7 @@ use tables::SyncTable;
 ghost use mathlib.Core.Path.{_≡_};
 ghost use Rattle.ready.specs.State.{commitSlot};
 ghost use Rattle.ready.specs.CommitSteps.{advanceLogNext, advanceLocationNext};
-ghost use Rattle.machine.specs.Machine.{withReady, answered, accepted};
+ghost use Rattle.machine.specs.Machine.{answered, accepted};
 ghost use Rattle.machine.specs.Working.{newRefusal, newIn, logNew, locationNew, commitOp, commitRequested, askAdvanceLogStep, advanceLogOp, advanceLogMachine, askAdvanceLocationStep, advanceLocationOp, advanceLocationMachine, askWriteBackSuperblockRespStep, writeBackSuperblockRespOp, answeredSync, commitAnswered, writeBackSuperblockRespMachine};
 
 // Where a commit is on disk, sync requests at State2 go to State1.
@@ -47,11 +48,16 @@ fn new_in(new: NewSuperblock) -> Superblock
 }
 
 impl Machine {
-    // What either commit's request does: the commit is in flight, and sync requests stay where they are.
+    // What either commit's request does: the commit is in flight, and where no entry is in memory sync requests at State3 go to State2.
     fn commit_requested(mut self, ready: Ready) -> Machine
-        ensures { λ r. ⌜ r ≡ withReady self ready ⌝ }
+        ensures { λ r. ⌜ r ≡ commitRequested self ready ⌝ }
     {
+        let before = self.ready;
+        let t = self.sync;
+        let idle = before.none_in_memory();
+        let sync = sent_sync(idle, t);
         self.ready = ready;
+        self.sync = sync;
         self
     }
 

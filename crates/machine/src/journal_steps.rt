@@ -16,11 +16,11 @@ ghost use Rattle.ready.specs.JournalSteps.{writeBackJournalRespNext};
 ghost use Rattle.machine.specs.Machine.{answered, accepted};
 ghost use Rattle.machine.specs.Working.{writeRefusal, rangeIn, journalNew, rangeOp, askWriteBackJournalReqStep, writeBackJournalReqOp, sentSync, writtenMachine, writeBackJournalReqMachine, sentOf, leftOf, sentRange, movedBytes, movedLens, writeBackJournalRespMachine};
 
-// Where entries in memory are sent, sync requests at State3 go to State2.
-fn sent_sync(memory: bool, t: SyncTable) -> SyncTable
-    ensures { λ r. ⌜ r ≡ sentSync memory t ⌝ }
+// What is sent, a range or a commit, moves sync requests at State3 to State2, where it moves any.
+pub(crate) fn sent_sync(moves: bool, t: SyncTable) -> SyncTable
+    ensures { λ r. ⌜ r ≡ sentSync moves t ⌝ }
 {
-    if memory {
+    if moves {
         return t.move_states(3, 2);
     }
     t

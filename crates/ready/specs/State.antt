@@ -37,9 +37,12 @@ awaitsId CommitNone id = false
 awaitsId (CommitAdvanceLog k new) id = eqb k id
 awaitsId (CommitAdvanceLocation k new) id = eqb k id
 
--- inMemoryJournalFrozen == [], replayJournal == []
+-- inMemoryJournalFrozen == [], inMemoryJournal == [] (all that is pending is frozen), replayJournal == []
 abbrev pub noneFrozen : Entries → Bool
 noneFrozen e = eqb (e .frozen) 0
+
+abbrev pub noneInMemory : Entries → Bool
+noneInMemory e = leb (e .pending) (e .frozen)
 
 abbrev pub replayed : Entries → Bool
 replayed e = leb (e .replay) (e .taken .entries)

@@ -4,7 +4,7 @@ use super::Entries;
 use super::sums::less;
 use memory::Count;
 ghost use mathlib.Core.Path.{_≡_};
-ghost use Rattle.ready.specs.State.{noneFrozen, replayed, replayLeft, sent, left};
+ghost use Rattle.ready.specs.State.{noneFrozen, noneInMemory, replayed, replayLeft, sent, left};
 ghost use Rattle.ready.specs.Inv.{someFrozenOk, entriesOk};
 ghost use Rattle.ready.specs.JournalSteps.{writtenEntries};
 
@@ -13,6 +13,13 @@ impl Entries {
         ensures { λ r. ⌜ r ≡ noneFrozen self ⌝ }
     {
         self.frozen == 0
+    }
+
+    // Is all that is pending frozen?
+    pub(crate) fn none_in_memory(self) -> bool
+        ensures { λ r. ⌜ r ≡ noneInMemory self ⌝ }
+    {
+        self.pending <= self.frozen
     }
 
     // Is nothing left of the replay?

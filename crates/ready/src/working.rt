@@ -8,7 +8,7 @@ use memory::Count;
 use superblock::Superblock;
 use tables::IdTable;
 ghost use mathlib.Core.Path.{_≡_};
-ghost use Rattle.ready.specs.State.{noneFrozen, replayed, sent, left, commitSlot, noneOutstanding, loaded};
+ghost use Rattle.ready.specs.State.{noneFrozen, noneInMemory, replayed, sent, left, commitSlot, noneOutstanding, loaded};
 
 impl Ready {
     // The most outstanding journal writes.
@@ -48,6 +48,14 @@ impl Ready {
     {
         let e = self.entries;
         e.none_frozen()
+    }
+
+    // Is no entry in memory?
+    pub fn none_in_memory(self) -> bool
+        ensures { λ r. ⌜ r ≡ noneInMemory (self .entries) ⌝ }
+    {
+        let e = self.entries;
+        e.none_in_memory()
     }
 
     // Is nothing left of the replay?

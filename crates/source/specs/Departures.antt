@@ -1,22 +1,23 @@
--- Document 01's departures from the sources. An amended predicate `Foo⁺` stands for the source's `Foo` with one clause more; the source's own
--- is its field `source`; a named predicate says what the clause takes away, and Laws/Departs shows that this is all. Ask again and a damaged
--- journal answer are new. A journal answer carries no `which`. There is no fallback to a single superblock to take away: it is a comment in
--- 000. A crash takes what it leaves open from a picture. `Allowed` at the end is the relation that demand 2 speaks of.
+-- The departures from the sources, of document 01 and of document 02's requests. An amended predicate `Foo⁺` stands for the source's `Foo` with
+-- one clause more, or, of a commit request, with another next state; the source's own is its field `source`; a named predicate says what is
+-- taken away, and Laws/Departs shows that this is all. Ask again and a damaged journal answer are new. A journal answer carries no `which`.
+-- There is no fallback to a single superblock to take away: it is a comment in 000. A crash takes what it leaves open from a picture. `Allowed`
+-- at the end is the relation that demand 2 speaks of.
 use Prim.Native.Nat.{ℕ, _<_}
 use mathlib.Core.Bool.{Bool, true, not}
 use mathlib.Core.Path.{_≡_}
-use mathlib.Core.List.{List}
+use mathlib.Core.List.{List, []}
 use mathlib.Core.Option.{Option, none, some}
 use mathlib.Core.Option
 use lib.ListN.{length, getD}
 use Rattle.layout.specs.declared.Geometry.{Geometry}
 use Rattle.interval.specs.Journal.{JournalBlock}
-use Rattle.laws.specs.Sets.{at, put}
+use Rattle.laws.specs.Sets.{Map, at, put}
 use Rattle.codec.specs.Codec.{JournalEntry, JournalRange, Codec}
 use Rattle.source.specs.JournalDisk as D
 use Rattle.source.specs.JournalDisk.{ReqId, DiskOp, ReqReadSuperblockOp, ReqReadJournalOp, ReqWriteSuperblockOp, ReqWriteJournalOp, RespReadSuperblockOp, RespReadJournalOp, RespWriteSuperblockOp, RespWriteJournalOp, NoDiskOp, JournalUntouched}
 use Rattle.source.specs.JournalCache as M
-use Rattle.source.specs.JournalCache.{Variables, LoadingOther, LoadingSuperblock, LoadingOtherVariables, LoadingSuperblockVariables, isReady, isLoadingOther, isLoadingSuperblock, SuperblockUnfinished, SuperblockCorruption, to-journalReads, to-superblocks, toWrite, WriteBackJournalReq, PageInJournalResp, PageInSuperblockReq, FinishLoadingOtherPhase, NoOp}
+use Rattle.source.specs.JournalCache.{Variables, LoadingOther, LoadingSuperblock, LoadingOtherVariables, LoadingSuperblockVariables, isReady, isLoadingOther, isLoadingSuperblock, SuperblockUnfinished, SuperblockCorruption, SyncReqStatus, State3, syncReqsOf, withSyncReqs, syncReqs3to2, ifNone, to-journalReads, to-superblocks, toWrite, WriteBackJournalReq, PageInJournalResp, PageInSuperblockReq, FinishLoadingOtherPhase, NoOp}
 use Rattle.source.specs.JournalCache.{Step, WriteBackJournalReqStep, WriteBackJournalRespStep, WriteBackSuperblockReq-AdvanceLog-Step, WriteBackSuperblockReq-AdvanceLocation-Step, WriteBackSuperblockRespStep, PageInJournalReqStep, PageInJournalRespStep, PageInSuperblockReqStep, PageInSuperblockRespStep, FinishLoadingSuperblockPhaseStep, FinishLoadingOtherPhaseStep, FreezeStep, ReceiveFrozenLocStep, AdvanceStep, ReplayStep, PushSyncReqStep, PopSyncReqStep, NoOpStep}
 use Rattle.source.specs.JournalSystem as Y
 use Rattle.source.specs.Limits.{Limits}
@@ -99,6 +100,26 @@ pub record AskAgainClauses (s : LoadingSuperblockVariables) (s′ : Variables) (
 abbrev pub AskAgain : Variables → Variables → DiskOp → Bool → Type 0
 AskAgain s s′ dop which = isLoadingSuperblock s (λ s. AskAgainClauses s s′ dop which)
 
+-- "When either commit is requested and no entry is in memory, sync requests at State3 go to State2 with that request" (document 02, S-2). The
+-- source's request leaves them as they are: the amended one is the source's, to a state `asked`, and then that state with the sync requests moved.
+
+-- the sync requests after a commit request
+abbrev pub idleSync : Variables → Map SyncReqStatus
+idleSync s = Y.onReady s (λ r. ifNone (r .inMemoryJournal) (syncReqs3to2 (r .syncReqs)) (r .syncReqs)) (syncReqsOf s)
+
+pub record CommitReq⁺ (R : Variables → Variables → DiskOp → Type 0) (s s′ : Variables) (dop : DiskOp) : Type 0 where
+  pub asked : Variables
+  pub source : R s asked dop
+  pub next : s′ ≡ withSyncReqs (idleSync s) asked
+
+-- a sync request waits at State3, and no entry is in memory
+abbrev pub WaitsIdle : Variables → Type 0
+WaitsIdle s = isReady s (λ s. (s .inMemoryJournal ≡ []) × ((id : ℕ) × (s .syncReqs id ≡ some State3)))
+
+-- what is taken away: that it goes on waiting there
+abbrev pub SyncStays : Variables → Variables → Type 0
+SyncStays s s′ = WaitsIdle s × (syncReqsOf s′ ≡ syncReqsOf s)
+
 -- The machine's steps with all this: `which` of a journal answer is not looked at.
 
 pub data Step⁺ : Type 0 where
@@ -109,8 +130,8 @@ pub data Step⁺ : Type 0 where
 abbrev pub SourceStep⁺ : Geometry → Codec → Variables → Variables → DiskOp → Step → Type 0
 SourceStep⁺ g C s s′ dop (WriteBackJournalReqStep jr) = WriteBackJournalReq⁺ g C s s′ dop jr
 SourceStep⁺ g C s s′ dop WriteBackJournalRespStep = M.WriteBackJournalResp s s′ dop
-SourceStep⁺ g C s s′ dop WriteBackSuperblockReq-AdvanceLog-Step = M.WriteBackSuperblockReq-AdvanceLog g s s′ dop
-SourceStep⁺ g C s s′ dop WriteBackSuperblockReq-AdvanceLocation-Step = M.WriteBackSuperblockReq-AdvanceLocation g s s′ dop
+SourceStep⁺ g C s s′ dop WriteBackSuperblockReq-AdvanceLog-Step = CommitReq⁺ (M.WriteBackSuperblockReq-AdvanceLog g) s s′ dop
+SourceStep⁺ g C s s′ dop WriteBackSuperblockReq-AdvanceLocation-Step = CommitReq⁺ (M.WriteBackSuperblockReq-AdvanceLocation g) s s′ dop
 SourceStep⁺ g C s s′ dop WriteBackSuperblockRespStep = M.WriteBackSuperblockResp s s′ dop
 SourceStep⁺ g C s s′ dop (PageInJournalReqStep which) = M.PageInJournalReq g s s′ dop which
 SourceStep⁺ g C s s′ dop (PageInJournalRespStep which) = PageInJournalResp⁺ s s′ dop
@@ -135,8 +156,8 @@ NextStep⁺ g C s s′ dop (AskAgainStep which) = AskAgain s s′ dop which
 abbrev pub TakenAway : Codec → Variables → Variables → DiskOp → Step → Type 0
 TakenAway C s s′ dop (WriteBackJournalReqStep jr) = OtherRange C s jr
 TakenAway C s s′ dop WriteBackJournalRespStep = ⊥
-TakenAway C s s′ dop WriteBackSuperblockReq-AdvanceLog-Step = ⊥
-TakenAway C s s′ dop WriteBackSuperblockReq-AdvanceLocation-Step = ⊥
+TakenAway C s s′ dop WriteBackSuperblockReq-AdvanceLog-Step = SyncStays s s′
+TakenAway C s s′ dop WriteBackSuperblockReq-AdvanceLocation-Step = SyncStays s s′
 TakenAway C s s′ dop WriteBackSuperblockRespStep = ⊥
 TakenAway C s s′ dop (PageInJournalReqStep which) = ⊥
 TakenAway C s s′ dop (PageInJournalRespStep which) = ⊥

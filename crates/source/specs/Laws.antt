@@ -1,6 +1,7 @@
 -- Laws about the relations, which a reader of the relations need not read.
 pub mod Cases
 pub mod Occurred
+pub mod Idle
 pub mod Departs
 pub mod Initial
 pub mod Overlap

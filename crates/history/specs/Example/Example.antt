@@ -21,11 +21,12 @@ use Rattle.superblock.specs.Superblock.{IncrementSuperblockCounter}
 use Rattle.codec.specs.Format.{format}
 use Rattle.source.specs.JournalDisk.{JournalUntouched}
 use Rattle.source.specs.JournalCache as M
+use Rattle.source.specs.JournalCache.{State1, syncReqsOf}
 use Rattle.source.specs.JournalSystem as Y
 use Rattle.source.specs.JournalSystem.{SuperblockOfDisk}
 use Rattle.source.specs.Limits.{limits}
 use Rattle.source.specs.Departures.{CrashStep}
-use Rattle.history.specs.Ledger.{Call, writeJournal, journalWritten, commitLog, commitLocation, superblockWritten, readSuperblock, superblockRead, finishSuperblocks, finishOther, freeze, receive, add, askAgain, land, crash, nonsense, blocks, readJournal, journalRead, Kept, fresh, begin, tell, books, Shown, shown}
+use Rattle.history.specs.Ledger.{Call, writeJournal, journalWritten, commitLog, commitLocation, superblockWritten, readSuperblock, superblockRead, finishSuperblocks, finishOther, freeze, receive, add, pushSync, askAgain, land, crash, nonsense, blocks, readJournal, journalRead, Kept, fresh, begin, tell, books, Shown, shown}
 use Rattle.history.specs.Statement.{tied-crash, Takes, shows, Loaded}
 use Rattle.history.specs.Demand.{demand-3}
 use Rattle.history.specs.Whole.Lists.{books-append, books-loads}
@@ -38,34 +39,34 @@ use Rattle.history.specs.Example.Setting.{g, table1, table2, sb0, first,
 use Rattle.history.specs.Example.Walk.{Walk, there, _then_, _refused-then_, walked}
 use Rattle.history.specs.Example.Morning.{d1, d2, d3, d4, d5, d6, d7, d8, d9}
 use Rattle.history.specs.Example.States.{sb2, slots2, j4, s29}
-use Rattle.history.specs.Example.Day.{d10, d11, d12, d13, d14, d15, d16, d17, d18, d19, again, d20, d21, d22, d23, d24, d25, d26, d27, d28, d29, early, outstanding, third-slot}
+use Rattle.history.specs.Example.Day.{d10, pushed8, d11, d12, d13, d14, d15, d16, d17, d18, d19, again, d20, d21, d22, d23, d24, pushed9, d25, d26, d27, d28, d29, early, outstanding, third-slot}
 
 -- the calls: a location commit before a location was received, a log commit with writes outstanding and nonsense are refused
 unfoldable pub day : List Call
 day =
     readSuperblock false 1 ∷ superblockRead false 1 false ∷ askAgain false
     ∷ readSuperblock false 1 ∷ superblockRead false 1 true ∷ readSuperblock true 1 ∷ superblockRead true 1 true ∷ finishSuperblocks ∷ finishOther
-    ∷ add large ∷ freeze ∷ add small ∷ writeJournal 1 none ∷ journalWritten 1 ∷ writeJournal 2 none ∷ journalWritten 2
+    ∷ add large ∷ pushSync 8 ∷ freeze ∷ add small ∷ writeJournal 1 none ∷ journalWritten 1 ∷ writeJournal 2 none ∷ journalWritten 2
     ∷ commitLocation 9 ∷ receive table2 ∷ commitLocation 3 ∷ land true ∷ land true ∷ superblockWritten 3
-    ∷ add large ∷ writeJournal 4 (some 5) ∷ commitLog 8 ∷ journalWritten 5 ∷ journalWritten 4 ∷ commitLog 6 ∷ land false ∷ superblockWritten 6
+    ∷ add large ∷ writeJournal 4 (some 5) ∷ commitLog 8 ∷ journalWritten 5 ∷ journalWritten 4 ∷ pushSync 9 ∷ commitLog 6 ∷ land false ∷ superblockWritten 6
     ∷ add small ∷ nonsense ∷ writeJournal 7 none ∷ []
 
 unfoldable pub answers : List Bool
 answers =
     true ∷ true ∷ true
     ∷ true ∷ true ∷ true ∷ true ∷ true ∷ true
-    ∷ true ∷ true ∷ true ∷ true ∷ true ∷ true ∷ true
+    ∷ true ∷ true ∷ true ∷ true ∷ true ∷ true ∷ true ∷ true
     ∷ false ∷ true ∷ true ∷ true ∷ true ∷ true
-    ∷ true ∷ true ∷ false ∷ true ∷ true ∷ true ∷ true ∷ true
+    ∷ true ∷ true ∷ false ∷ true ∷ true ∷ true ∷ true ∷ true ∷ true
     ∷ true ∷ false ∷ true ∷ []
 
 pub walk : Walk first day answers s29
 unfolding day answers
 walk =
     d1 then d2 then d3 then d4 then d5 then d6 then d7 then d8 then d9
-    then d10 then d11 then d12 then d13 then d14 then d15 then d16
+    then d10 then pushed8 then d11 then d12 then d13 then d14 then d15 then d16
     then early refused-then d17 then d18 then d19 then again then d20
-    then d21 then d22 then outstanding refused-then d23 then d24 then d25 then d26 then d27
+    then d21 then d22 then outstanding refused-then d23 then d24 then pushed9 then d25 then d26 then d27
     then d28 then third-slot refused-then d29 then there
 
 -- the crash leaves block 1 unreadable, as its picture has it
@@ -186,3 +187,8 @@ example-shows =
 
 pub example : (r : M.ReadyVariables) × Loaded g format limits first day answers evening (taken evening) r × (shows r ≡ told)
 example = (example-loads .0, example-loads .1, example-shows)
+
+-- Both sync requests are at State1 at the end. The first was pushed behind the long entries, which the location commit's landing then dropped; the
+-- second with nothing in memory, so that the log commit's request moved it.
+pub example-saved : (syncReqsOf (s29 .machine) 8 ≡ some State1) × (syncReqsOf (s29 .machine) 9 ≡ some State1)
+example-saved = (refl, refl)

@@ -155,7 +155,7 @@ d8 =
     (disk-reading (both no-ids) rest-few)
 
 abbrev pub started : Y.Variables
-started = record { machine = M.Variables.Ready (dayAt sb0 false 0 0 false none [] [] no-ids idle); disk = resting slots0 j0 }
+started = record { machine = M.Variables.Ready (dayAt no-keys sb0 false 0 0 false none [] [] no-ids idle); disk = resting slots0 j0 }
 
 pub d9 : Step chosen finishOther started
 unfolding JournalFrontInterval JournalBackInterval
@@ -199,4 +199,4 @@ d9 =
                 };
           };
     })
-    tt (counts refl (none-few 16) none-pending) (disk-reading (both no-ids) rest-few)
+    tt (counts (none-few 32) (none-few 16) none-pending) (disk-reading (both no-ids) rest-few)

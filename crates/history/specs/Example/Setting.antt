@@ -153,9 +153,9 @@ pub both-pending : Pending large small
 unfolding small large sum lengths
 both-pending = record { few = omega arith; bytes = omega arith }
 
--- a machine of this day at Ready: nothing to replay, no sync request
-abbrev pub dayAt : Superblock → Bool → ℕ → ℕ → Bool → Option Location → List JournalEntry → List JournalEntry → Ids → Flight → M.ReadyVariables
-dayAt sb which len position isFrozen loc frozen memory ids f =
+-- a machine of this day at Ready: nothing to replay
+abbrev pub dayAt : Map M.SyncReqStatus → Superblock → Bool → ℕ → ℕ → Bool → Option Location → List JournalEntry → List JournalEntry → Ids → Flight → M.ReadyVariables
+dayAt requests sb which len position isFrozen loc frozen memory ids f =
     record {
       frozenLoc = loc;
       isFrozen = isFrozen;
@@ -170,7 +170,7 @@ dayAt sb which len position isFrozen loc frozen memory ids f =
       whichSuperblock = which;
       commitStatus = f .commitStatus;
       newSuperblock = f .newSuperblock;
-      syncReqs = no-keys;
+      syncReqs = requests;
     }
 
 -- the disk of this day: nothing is read
@@ -179,8 +179,8 @@ dayDisk sw writes slots j =
     record { reqReadSuperblocks = both no-ids; reqReadJournals = no-keys; reqWriteSuperblocks = sw; reqWriteJournals = writes; superblocks = slots; journal = j }
 
 -- the counts of both
-pub counts : {s : M.ReadyVariables} → s .syncReqs ≡ no-keys → AtMost 16 (s .outstandingJournalWrites) → Pending (s .inMemoryJournalFrozen) (s .inMemoryJournal) → MachineCounts limits (M.Variables.Ready s)
-counts e few p = record { sync-few = subst (λ (m : Map M.SyncReqStatus). AtMost 32 (keys m)) (sym e) (none-few 32); writes-few = few; pending-few = p .few; pending-small = p .bytes }
+pub counts : {s : M.ReadyVariables} → AtMost 32 (keys (s .syncReqs)) → AtMost 16 (s .outstandingJournalWrites) → Pending (s .inMemoryJournalFrozen) (s .inMemoryJournal) → MachineCounts limits (M.Variables.Ready s)
+counts sync few p = record { sync-few = sync; writes-few = few; pending-few = p .few; pending-small = p .bytes }
 
 pub writing : {sw : Two (Option ReqWriteSuperblockId)} {writes : Map JournalInterval} {slots : Two (Option Superblock)} {j : List (Option JournalBlock)} → AtMost 16 (keys writes)
     → DiskCounts limits (dayDisk sw writes slots j)

@@ -16,7 +16,7 @@ use Rattle.source.specs.JournalCache as M
 use Rattle.source.specs.JournalCache.{journalIntervalOfSuperblock}
 use Rattle.source.specs.Limits.{Limits}
 use Rattle.source.specs.Meets.{SystemMeets, awaitedJournalReads, oneId, bindRead}
-use Rattle.source.specs.Departures.{FinishLoadingOtherPhase⁺, NoOp⁺, Awaited, DamagedJournal, AskAgain}
+use Rattle.source.specs.Departures.{FinishLoadingOtherPhase⁺, idleSync, CommitReq⁺, NoOp⁺, Awaited, DamagedJournal, AskAgain}
 use Rattle.history.specs.Ledger.{Kept, Ledger}
 use Rattle.history.specs.Simulation.Relation.{keptInterval, Flight, flightOf, Phase, quiet, waits, done, Sim}
 use Rattle.history.specs.Simulation.Commits.{none-there}
@@ -205,6 +205,10 @@ module _ (g : Geometry) (C : Codec) where
   neat-commit-location (M.Variables.LoadingOther s) m′ d d′ k dop n h hd = absurd h
   neat-commit-location (M.Variables.Ready s) m′ d d′ k dop n h hd =
       by-neat _ m′ _ d′ k (h .next) (subst (D.Next g d d′) (h .op) hd .next) (record { reads = n .reads; pages = n .pages; pieces = n .pieces; apart = n .apart })
+
+  -- and with the sync requests as the departure has them
+  pub neat-synced : (R : M.Variables → M.Variables → DiskOp → Type 0) → Keeping R → Keeping (CommitReq⁺ R)
+  neat-synced R f m m′ d d′ k dop n h hd = by-neat _ m′ d′ d′ k (h .next) refl (neat-sync (h .asked) d′ k (idleSync m) (f m (h .asked) d d′ k dop n (h .source) hd))
 
   -- a write in flight is answered
   pub neat-write-off : (s : M.ReadyVariables) (d : D.Variables) (k : Kept) (id : ReqId) (ids : Ids) → Neat g C (M.Variables.Ready s) d k

@@ -36,7 +36,7 @@ use Rattle.history.specs.Simulation.Steps.{sim-step}
 use Rattle.history.specs.Whole.First.{firstParity, init-sim}
 use Rattle.history.specs.Reach.Neat.{Piece, Neat, neat-meets}
 use Rattle.history.specs.Reach.NeatWrites.{Lone, straight-pieces, straight-lone, wrapped-pieces, wrapped-lone}
-use Rattle.history.specs.Reach.NeatSteps.{by-neat, neat-superblock-req, neat-superblock-resp, neat-ask-again, neat-finish-superblocks, neat-journal-req, neat-journal-resp, neat-damaged, neat-finish-other, neat-push, neat-pop, neat-replay, neat-add, neat-freeze, neat-receive, neat-commit-log, neat-commit-location, neat-write-resp, neat-commit-resp, neat-land, neat-no-op}
+use Rattle.history.specs.Reach.NeatSteps.{by-neat, neat-superblock-req, neat-superblock-resp, neat-ask-again, neat-finish-superblocks, neat-journal-req, neat-journal-resp, neat-damaged, neat-finish-other, neat-push, neat-pop, neat-replay, neat-add, neat-freeze, neat-receive, neat-commit-log, neat-commit-location, neat-synced, neat-write-resp, neat-commit-resp, neat-land, neat-no-op}
 
 module _ (g : Geometry) (C : Codec) (p : ℕ) where
   neat-write : (jr : JournalRange) (m m′ : M.Variables) (d d′ : D.Variables) (l : Ledger) (dop : DiskOp) → Sim g C p m d l → Neat g C m d (l .kept) → WriteBackJournalReq⁺ g C m m′ dop jr
@@ -103,8 +103,8 @@ module _ (g : Geometry) (C : Codec) (L : Limits) (p : ℕ) (s t : Y.Variables) (
   neat-tied x e (tied-write {jr = jr}) a = neat-write g C p jr (s .machine) (t .machine) (s .disk) (t .disk) l _ z n (a .step .machine) (a .step .disk)
   neat-tied x e tied-written a = neat-write-resp g C (s .machine) (t .machine) (s .disk) (t .disk) (l .kept) _ n (a .step .machine) (a .step .disk)
   neat-tied x e unawaited-written a = neat-no-op g C (s .machine) (t .machine) (s .disk) (t .disk) (l .kept) _ p l z n (a .step .machine) (a .step .disk)
-  neat-tied x e tied-log a = neat-commit-log g C (s .machine) (t .machine) (s .disk) (t .disk) (l .kept) _ n (a .step .machine) (a .step .disk)
-  neat-tied x e tied-location a = neat-commit-location g C (s .machine) (t .machine) (s .disk) (t .disk) (l .kept) _ n (a .step .machine) (a .step .disk)
+  neat-tied x e tied-log a = neat-synced g C _ (neat-commit-log g C) (s .machine) (t .machine) (s .disk) (t .disk) (l .kept) _ n (a .step .machine) (a .step .disk)
+  neat-tied x e tied-location a = neat-synced g C _ (neat-commit-location g C) (s .machine) (t .machine) (s .disk) (t .disk) (l .kept) _ n (a .step .machine) (a .step .disk)
   neat-tied x e tied-committed a = neat-commit-resp g C p (s .machine) (t .machine) (s .disk) (t .disk) l (l .kept) _ z n (a .step .machine) (a .step .disk)
   neat-tied x e unawaited-committed a = neat-no-op g C (s .machine) (t .machine) (s .disk) (t .disk) (l .kept) _ p l z n (a .step .machine) (a .step .disk)
   neat-tied x e (tied-page {which = which}) a = neat-journal-req g C L which (s .machine) (t .machine) (s .disk) (t .disk) (l .kept) _ (a .meets) n (a .step .machine) (a .step .disk)

@@ -56,12 +56,11 @@ module _ (g : Geometry) (C : Codec) (p : ℕ) where
   module _ (s : M.ReadyVariables) (m′ : M.Variables) (d d′ : D.Variables) (l : Ledger) (dop : DiskOp) (z : Sim g C p (M.Variables.Ready s) d l)
       (h : M.WriteBackSuperblockRespClauses s m′ dop) (t : D.AckWriteSuperblock d d′ (h .id) (h .which)) where
     -- the write cannot have been answered before it landed
-    answered-early : Asked g C (flightOf s) (d .reqWriteSuperblocks) (d .reqWriteJournals) (l .request) (l .kept) (l .draft .before) (l .draft .after) (z .slot) → Sim g C p m′ d′ l
+    pub answered-early : Asked g C (flightOf s) (d .reqWriteSuperblocks) (d .reqWriteJournals) (l .request) (l .kept) (l .draft .before) (l .draft .after) (z .slot) → ⊥
     answered-early a =
-        absurd
-        (slots-not-yet g (d .superblocks) (z .slot) (superOf C (l .kept)) (z .disk .selected) (a .new)
+        slots-not-yet g (d .superblocks) (z .slot) (superOf C (l .kept)) (z .disk .selected) (a .new)
         (ap (λ (v : Superblock). v .counter) (a .new-is) ∙ kept-counter g C (a .commit) (a .draft) (l .kept))
-        ((λ i. some (sym (here .1) i .req .superblock)) ∙ t .landed ∙ ap (at (d .superblocks)) (here .0)))
+        ((λ i. some (sym (here .1) i .req .superblock)) ∙ t .landed ∙ ap (at (d .superblocks)) (here .0))
       where
         here : (h .which ≡ not (z .slot)) × (t .write ≡ record { id = a .id; req = record { superblock = a .new } })
         here = at-slot (not (z .slot)) (h .which) (a .id) (a .new) (t .write) (subst (λ (x : Two (Option ReqWriteSuperblockId)). at x (h .which) ≡ some (t .write)) (a .writes-are) (t .waiting))
@@ -134,7 +133,7 @@ module _ (g : Geometry) (C : Codec) (p : ℕ) where
       go : Phase g C (flightOf s) (s .superblock) (s .whichSuperblock) (s .writtenJournalLen) (s .frozenJournalPosition) (d .reqWriteSuperblocks) (d .reqWriteJournals) (d .journal)
           (l .request) (l .kept) (l .draft .before) (l .draft .after) (z .slot) → Sim g C p m′ d′ l
       go (quiet q st) = none-some (ap (λ (f : Flight). f .superblockWrite) (q .flight-is)) (sym (h .waiting))
-      go (waits a st) = answered-early s m′ d d′ l dop z h t a
+      go (waits a st) = absurd (answered-early s m′ d d′ l dop z h t a)
       go (done a) = answered-done s m′ d d′ l dop z h t a
 
   -- an answer to a superblock write is awaited, whenever there is one

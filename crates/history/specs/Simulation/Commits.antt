@@ -17,15 +17,16 @@ use Rattle.laws.specs.Sets.{no-ids, Two, both, at, put, none-some, at-both}
 use Rattle.laws.specs.Maps.{no-keys-of}
 use Rattle.codec.specs.Codec.{Codec}
 use Rattle.source.specs.JournalDisk as D
-use Rattle.source.specs.JournalDisk.{ReqId, ReqWriteSuperblockId}
+use Rattle.source.specs.JournalDisk.{ReqId, ReqWriteSuperblockId, DiskOp}
 use Rattle.source.specs.JournalCache as M
 use Rattle.source.specs.JournalCache.{advancedLog, advancedLocation}
+use Rattle.source.specs.Departures.{idleSync, CommitReq⁺}
 use Rattle.history.specs.Ledger.{blocks, Commit, log, location, Ledger, asked, keptBy}
 use Rattle.codec.specs.Ranges.{blocks-append}
 use Rattle.history.specs.Journal.Holds.{pos-add-mod, pos-add-in}
 use Rattle.history.specs.Journal.Slots.{slots-wf}
 use Rattle.history.specs.Simulation.Relation.{superOf, Standing, statusOf, toSlot, Quiet, waits, flightOf, Sim}
-use Rattle.history.specs.Simulation.Loading.{by-next, Keeps}
+use Rattle.history.specs.Simulation.Loading.{by-next, Keeps, sim-sync}
 use Rattle.history.specs.Simulation.Working.{on-quiet}
 
 -- the one write in flight, by the slot that answers
@@ -145,3 +146,7 @@ module _ (g : Geometry) (C : Codec) (p : ℕ) where
 
       rest : s .writtenJournalLen - s .frozenJournalPosition ≡ blocks C (l .draft .after)
       rest = omega (arith, st .len-is, st .position-is, blocks-append C (l .draft .before) (l .draft .after))
+
+  -- and with the sync requests as the departure has them
+  pub sim-synced : (R : M.Variables → M.Variables → DiskOp → Type 0) (f : Ledger → Ledger) → Keeps g C p R f → Keeps g C p (CommitReq⁺ R) f
+  sim-synced R f k m m′ d d′ l dop z h hd = by-next g C p (h .next) refl (sim-sync g C p (h .asked) d′ (f l) (idleSync m) (k m (h .asked) d d′ l dop z (h .source) hd))

@@ -62,7 +62,7 @@ module _ (g : Geometry) (C : Codec) (p : ℕ) where
       (m m′ : M.Variables) (d d′ : D.Variables) (l : Ledger) (dop : DiskOp) → Sim g C p m d l → R m m′ dop → D.Next g d d′ dop → Sim g C p m′ d′ (f l)
 
   -- sync requests play no part
-  sim-sync : (m : M.Variables) (d : D.Variables) (l : Ledger) (t : Map M.SyncReqStatus) → Sim g C p m d l → Sim g C p (M.withSyncReqs t m) d l
+  pub sim-sync : (m : M.Variables) (d : D.Variables) (l : Ledger) (t : Map M.SyncReqStatus) → Sim g C p m d l → Sim g C p (M.withSyncReqs t m) d l
   sim-sync (M.Variables.LoadingSuperblock s) d l t z = record { slot = z .slot; disk = z .disk; runs = z .runs }
   sim-sync (M.Variables.LoadingOther s) d l t z = record { slot = z .slot; disk = z .disk; runs = z .runs }
   sim-sync (M.Variables.Ready s) d l t z = record { slot = z .slot; disk = z .disk; runs = z .runs }

@@ -12,12 +12,12 @@ use Rattle.source.specs.Limits.{Limits}
 use Rattle.source.specs.Meets.{SystemMeets}
 use Rattle.source.specs.Departures.{Event, Allowed}
 use Rattle.source.specs.Laws.Awaited.{awaited-read}
-use Rattle.history.specs.Ledger.{Call, Ledger, tell}
+use Rattle.history.specs.Ledger.{Call, log, location, Ledger, asked, tell}
 use Rattle.history.specs.Statement.{Tied, tied-write, tied-written, unawaited-written, tied-log, tied-location, tied-committed, unawaited-committed, tied-page, tied-paged, tied-damaged, unawaited-paged, unawaited-damaged, tied-read, tied-superblock, tied-corrupt, unawaited-superblock, unawaited-corrupt, tied-finish-superblocks, tied-finish-other, tied-freeze, tied-receive, tied-add, tied-replay, tied-push, tied-pop, tied-no-op, tied-again, tied-land, tied-crash, Takes}
 use Rattle.history.specs.Simulation.Relation.{ReadsStand, Sim}
 use Rattle.history.specs.Simulation.Loading.{sim-superblock-req, sim-superblock-resp, sim-finish-superblocks, sim-journal-req, sim-journal-resp, sim-finish-other, sim-push, sim-pop, sim-replay}
 use Rattle.history.specs.Simulation.Working.{sim-add, sim-freeze, sim-receive, sim-write, sim-write-resp}
-use Rattle.history.specs.Simulation.Commits.{sim-commit-log, sim-commit-location}
+use Rattle.history.specs.Simulation.Commits.{sim-commit-log, sim-commit-location, sim-synced}
 use Rattle.history.specs.Simulation.Landing.{sim-land}
 use Rattle.history.specs.Simulation.Answering.{sim-commit-resp, sim-no-op, sim-damaged, sim-ask-again, sim-crash}
 
@@ -33,8 +33,8 @@ module _ (g : Geometry) (C : Codec) (L : Limits) (p : ℕ) (s t : Y.Variables) (
   tied-sim x e (tied-write {jr = jr}) a = sim-write g C p jr (s .machine) (t .machine) (s .disk) (t .disk) l _ z (a .step .machine) (a .step .disk)
   tied-sim x e tied-written a = sim-write-resp g C p (s .machine) (t .machine) (s .disk) (t .disk) l _ z (a .step .machine) (a .step .disk)
   tied-sim x e unawaited-written a = sim-no-op g C p (s .machine) (t .machine) (s .disk) (t .disk) l _ z (a .step .machine .source) (a .step .disk)
-  tied-sim x e tied-log a = sim-commit-log g C p (s .machine) (t .machine) (s .disk) (t .disk) l _ z (a .step .machine) (a .step .disk)
-  tied-sim x e tied-location a = sim-commit-location g C p (s .machine) (t .machine) (s .disk) (t .disk) l _ z (a .step .machine) (a .step .disk)
+  tied-sim x e tied-log a = sim-synced g C p _ (asked log) (sim-commit-log g C p) (s .machine) (t .machine) (s .disk) (t .disk) l _ z (a .step .machine) (a .step .disk)
+  tied-sim x e tied-location a = sim-synced g C p _ (asked location) (sim-commit-location g C p) (s .machine) (t .machine) (s .disk) (t .disk) l _ z (a .step .machine) (a .step .disk)
   tied-sim x e tied-committed a = sim-commit-resp g C p (s .machine) (t .machine) (s .disk) (t .disk) l _ z (a .step .machine) (a .step .disk)
   tied-sim x e unawaited-committed a = sim-no-op g C p (s .machine) (t .machine) (s .disk) (t .disk) l _ z (a .step .machine .source) (a .step .disk)
   tied-sim x e (tied-page {which = which}) a = sim-journal-req g C p which (s .machine) (t .machine) (s .disk) (t .disk) l _ z (a .step .machine) (a .step .disk)

@@ -64,7 +64,7 @@ state-one n e h =
 
 module _ (g : Geometry) (l : Lent) (m : Machine) where
   -- the requests of the view are the table's, and another table alters nothing else
-  requests-seen : syncReqsOf (machineOf g l m) ≡ syncsOf m
+  pub requests-seen : syncReqsOf (machineOf g l m) ≡ syncsOf m
   requests-seen = by-kind (λ x. syncReqsOf (machineOf g l x) ≡ syncsOf x) m refl refl refl
 
   table-seen : (t : SyncTable) (x : Map SyncReqStatus) → syncMap stateOf t ≡ x → machineOf g l (withSync m t) ≡ withSyncReqs x (machineOf g l m)

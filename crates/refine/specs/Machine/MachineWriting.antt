@@ -60,8 +60,8 @@ sentIn (op.RespWriteSuperblock id which) out = []
 sentIn (op.RespWriteJournal id) out = []
 sentIn op.NoDiskOp out = []
 
--- sync requests move where entries in memory are sent
-sent-syncs : (memory : Bool) (t : SyncTable) → syncMap stateOf (sentSync memory t) ≡ cond memory (syncReqs3to2 (syncMap stateOf t)) (syncMap stateOf t)
+-- sync requests move where what is sent moves them
+pub sent-syncs : (moves : Bool) (t : SyncTable) → syncMap stateOf (sentSync moves t) ≡ cond moves (syncReqs3to2 (syncMap stateOf t)) (syncMap stateOf t)
 unfolding sentSync
 sent-syncs true t = syncs-3to2 t
 sent-syncs false t = refl

@@ -1,23 +1,25 @@
 -- Demand 3 of the code isn't empty: the example day of crate history is a day of the code. From `Store::initial` over any memory of the right
 -- lengths whose marks are 0, the code takes and refuses the day's calls as they are listed there: commits of both kinds, ranges that go round the
--- ring, a damaged read, a crash with a write in flight, and a load in two pieces; and at Ready it shows the ledger.
+-- ring, two sync requests, a damaged read, a crash with a write in flight, and a load in two pieces; and at Ready it shows the ledger.
 use Prim.Native.Nat.{ℕ, _*_}
 use mathlib.Core.Bool.{Bool, true, false}
 use mathlib.Core.Path.{_≡_, refl, sym, _∙_, ap, subst}
 use mathlib.Core.List.{List, [], _∷_, _++_, map}
+use mathlib.Core.Option.{some}
 use native.Mathlib.Omega.{arith}
 use lib.ListN.{length, replicate, length-replicate}
 use Rattle.laws.specs.Part.{tab}
 use Rattle.laws.specs.Cut.{lengths}
 use Rattle.laws.specs.Fold.{sum, every}
 use Rattle.laws.specs.Choice.{also}
-use Rattle.laws.specs.Sets.{AtMost, keys, none-few}
+use Rattle.laws.specs.Sets.{Map, AtMost, keys, none-few}
 use Rattle.codec.specs.Codec.{Sized}
 use Rattle.codec.specs.Format.{format}
 use Rattle.journal.specs.Memory.{isMark, isOne}
 use Rattle.journal.specs.Cells.{cellsIn}
 use Rattle.source.specs.JournalDisk as D
 use Rattle.source.specs.JournalCache as M
+use Rattle.source.specs.JournalCache.{SyncReqStatus, State1, syncReqsOf}
 use Rattle.source.specs.JournalSystem as Y
 use Rattle.source.specs.Limits.{limits, MachineCounts, DiskCounts}
 use Rattle.source.specs.Departures.{Event, FinishLoadingOtherPhase⁺, Allowed}
@@ -28,10 +30,11 @@ use Rattle.history.specs.Loads.Comes.{taken}
 use Rattle.history.specs.Example.Setting.{g, g-valid, sb0, first, small, large, small-few, small-fit, large-few, large-fit}
 use Rattle.history.specs.Example.Walk.{Walk, there, _then_, _refused-then_}
 use Rattle.history.specs.Example.States.{s29}
-use Rattle.history.specs.Example.Example.{day, answers, walk, evening, told, example-loads, example-shows}
+use Rattle.history.specs.Example.Example.{day, answers, walk, evening, told, example-loads, example-shows, example-saved}
 use Rattle.store.specs.Lent.{Lent, machineLent}
 use Rattle.refine.specs.Disk.View as disk
-use Rattle.refine.specs.Machine.MachineView.{MachineLent}
+use Rattle.refine.specs.Machine.MachineView.{MachineLent, syncsOf}
+use Rattle.refine.specs.Machine.MachineSync.{requests-seen}
 use Rattle.refine.specs.Machine.MachineInitial.{initial-seen}
 use Rattle.refine.specs.Store.Seen.{seen}
 use Rattle.refine.specs.Store.History.{State, Made, codeStore, stateSeen, readySeen, loaded-ready}
@@ -95,9 +98,9 @@ unfolding day
 day-brings =
     tt and tt and tt
     and tt and tt and tt and tt and tt and tt
-    and long and tt and short and tt and tt and tt and tt
+    and long and tt and tt and short and tt and tt and tt and tt
     and tt and tt and tt and tt and tt and tt
-    and long and tt and tt and tt and tt and tt and tt and tt
+    and long and tt and tt and tt and tt and tt and tt and tt and tt
     and short and tt and tt and done
   where
     long : Few large
@@ -187,6 +190,8 @@ pub record CodeDay (l : Lent) : Type 0 where
   pub are-day : map (codeStore g .call) calls ≡ day
   pub are-evening : map (codeStore g .call) loading ≡ evening
   pub shows-told : shows (readySeen (loaded .end)) ≡ told
+  -- before the crash both sync requests are at State1
+  pub saved : (syncsOf (loaded .before .store .machine) 8 ≡ some State1) × (syncsOf (loaded .before .store .machine) 9 ≡ some State1)
 
 pub code-day : (l : Lent) → Blank l → CodeDay l
 code-day l b =
@@ -211,6 +216,7 @@ code-day l b =
       are-day = a .heard;
       are-evening = e .heard;
       shows-told = ap shows (loaded-ready g (e .end) (example-loads .0) at-ready .1) ∙ example-shows;
+      saved = (requests 8 ∙ example-saved .0, requests 9 ∙ example-saved .1);
     }
   where
     h : Loaded g format limits first day answers evening (taken evening) (example-loads .0)
@@ -223,6 +229,9 @@ code-day l b =
     a =
         follow g (morning l) day answers s29 (fresh-form g l (holding sb0 sb0) (b .machine) (b .disk))
         (subst (λ (u : Y.Variables). Lived g u day answers s29) (sym (morning-seen l b)) (walk-lived walk)) s29-fits day-brings
+
+    requests : (id : ℕ) → syncsOf (a .end .store .machine) id ≡ syncReqsOf (s29 .machine) id
+    requests id = ap (λ (x : Map SyncReqStatus). x id) (sym (requests-seen g (machineLent (a .end .lent)) (a .end .store .machine)) ∙ ap (λ (u : Y.Variables). syncReqsOf (u .machine)) (a .ends))
 
     end-fits : Fits g (h .end)
     end-fits = evening-fits (h .after) (h .end) (h .load)

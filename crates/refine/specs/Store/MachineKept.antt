@@ -18,7 +18,7 @@ use Rattle.ready.specs.declared.Bodies.{Bodies}
 use Rattle.ready.specs.declared.Ready.{Ready}
 use Rattle.ready.specs.declared.Commit.{Commit}
 use Rattle.ready.specs.declared.Commit.the-variants as commit
-use Rattle.ready.specs.State.{noneFrozen, awaitsId, count, left, withCommit}
+use Rattle.ready.specs.State.{noneFrozen, noneInMemory, awaitsId, count, left, withCommit}
 use Rattle.ready.specs.JournalSteps.{writeBackJournalRespNext}
 use Rattle.ready.specs.CommitSteps.{advancedLog, advancedLocation, writeBackSuperblockRespNext}
 use Rattle.ready.specs.FreezeSteps.{freezeNext, receiveFrozenLocNext}
@@ -121,12 +121,12 @@ module _ (g : Geometry) (l : Lent) (m : Machine) (z : SizedMachine m) (f : Machi
 
   pub commit-log-kept : (id : ℕ) → askReady m ≡ 0 → MachineForm l (advanceLogMachine m id)
   unfolding advanceLogMachine commitRequested
-  commit-log-kept id q = record { sync = f .sync; kind = commit-form (commit.CommitAdvanceLog id (advancedLog (m .ready))) (work-asked m q) }
+  commit-log-kept id q = record { sync = sent-form (m .sync) (z .syncs) (f .sync) (noneInMemory (m .ready .entries)); kind = commit-form (commit.CommitAdvanceLog id (advancedLog (m .ready))) (work-asked m q) }
 
   pub commit-location-kept : (id : ℕ) → askReady m ≡ 0 → MachineForm l (advanceLocationMachine g m id)
   unfolding advanceLocationMachine commitRequested
   commit-location-kept id q =
-      record { sync = f .sync; kind = commit-form (commit.CommitAdvanceLocation id (advancedLocation g (m .ready) (newLocation m))) (work-asked m q) }
+      record { sync = sent-form (m .sync) (z .syncs) (f .sync) (noneInMemory (m .ready .entries)); kind = commit-form (commit.CommitAdvanceLocation id (advancedLocation g (m .ready) (newLocation m))) (work-asked m q) }
 
   pub superblock-written-kept : (id : ℕ) → MachineForm l (writeBackSuperblockRespMachine m id)
   unfolding writeBackSuperblockRespMachine commitAnswered

@@ -33,7 +33,7 @@ use Rattle.ready.specs.declared.Commit.{Commit}
 use Rattle.ready.specs.declared.Commit.the-variants as commit
 use Rattle.ready.specs.declared.Ready.{Ready}
 use Rattle.ready.specs.declared.Bodies.{Bodies}
-use Rattle.ready.specs.State.{noneFrozen, awaitsId, loaded}
+use Rattle.ready.specs.State.{noneFrozen, noneInMemory, awaitsId, loaded}
 use Rattle.ready.specs.JournalSteps.{joinedIds, writeBackJournalReqNext, writeBackJournalRespNext}
 use Rattle.ready.specs.CommitSteps.{logCommitted, locationCommitted, answered, writeBackSuperblockRespNext}
 use Rattle.ready.specs.FreezeSteps.{freezeNext, receiveFrozenLocNext}
@@ -195,11 +195,11 @@ module _ (m : Machine) (z : SizedMachine m) where
 
   pub commit-log-sized : (id : ℕ) → SizedMachine (advanceLogMachine m id)
   unfolding advanceLogMachine commitRequested
-  commit-log-sized id = record { syncs = z .syncs; writes = z .writes }
+  commit-log-sized id = record { syncs = sent-sized (noneInMemory (m .ready .entries)) (m .sync) (z .syncs); writes = z .writes }
 
   pub commit-location-sized : (g : Geometry) (id : ℕ) → SizedMachine (advanceLocationMachine g m id)
   unfolding advanceLocationMachine commitRequested
-  commit-location-sized g id = record { syncs = z .syncs; writes = z .writes }
+  commit-location-sized g id = record { syncs = sent-sized (noneInMemory (m .ready .entries)) (m .sync) (z .syncs); writes = z .writes }
 
   pub superblock-written-sized : (id : ℕ) → SizedMachine (writeBackSuperblockRespMachine m id)
   unfolding writeBackSuperblockRespMachine commitAnswered

@@ -98,8 +98,8 @@ module _ (g : Geometry) (C : Codec) (s′ : Variables) (dop : DiskOp) where
   ready-taken s (Source (WriteBackJournalReqStep jr)) a h =
       no-answer dop (ReqWriteJournalOp (h .source .id1) (h .source .id2) (h .source .req)) (h .source .op) (λ x. x) a
   ready-taken s (Source WriteBackJournalRespStep) a h = inr (by-write s h)
-  ready-taken s (Source WriteBackSuperblockReq-AdvanceLog-Step) a h = no-answer dop (ReqWriteSuperblockOp (h .id) (h .which) (h .req)) (h .op) (λ x. x) a
-  ready-taken s (Source WriteBackSuperblockReq-AdvanceLocation-Step) a h = no-answer dop (ReqWriteSuperblockOp (h .id) (h .which) (h .req)) (h .op) (λ x. x) a
+  ready-taken s (Source WriteBackSuperblockReq-AdvanceLog-Step) a h = no-answer dop (ReqWriteSuperblockOp (h .source .id) (h .source .which) (h .source .req)) (h .source .op) (λ x. x) a
+  ready-taken s (Source WriteBackSuperblockReq-AdvanceLocation-Step) a h = no-answer dop (ReqWriteSuperblockOp (h .source .id) (h .source .which) (h .source .req)) (h .source .op) (λ x. x) a
   ready-taken s (Source WriteBackSuperblockRespStep) a h = inr (by-commit s h)
   ready-taken s (Source (PageInJournalReqStep which)) a h = absurd h
   ready-taken s (Source (PageInJournalRespStep which)) a h = absurd (h .1)
@@ -126,8 +126,8 @@ module _ (g : Geometry) (C : Codec) (s′ : Variables) (dop : DiskOp) where
       → NoOp⁺ (LoadingOther s) s′ dop ⊎ Taken g (LoadingOther s) s′ dop
   other-taken s (Source (WriteBackJournalReqStep jr)) a h = absurd (h .source)
   other-taken s (Source WriteBackJournalRespStep) a h = absurd h
-  other-taken s (Source WriteBackSuperblockReq-AdvanceLog-Step) a h = absurd h
-  other-taken s (Source WriteBackSuperblockReq-AdvanceLocation-Step) a h = absurd h
+  other-taken s (Source WriteBackSuperblockReq-AdvanceLog-Step) a h = absurd (h .source)
+  other-taken s (Source WriteBackSuperblockReq-AdvanceLocation-Step) a h = absurd (h .source)
   other-taken s (Source WriteBackSuperblockRespStep) a h = absurd h
   other-taken s (Source (PageInJournalReqStep which)) a h = no-answer dop (ReqReadJournalOp (h .id) (h .interval)) (h .op) (λ x. x) a
   other-taken s (Source (PageInJournalRespStep which)) a h = inr (by-piece s (h .0) (h .1))
@@ -154,8 +154,8 @@ module _ (g : Geometry) (C : Codec) (s′ : Variables) (dop : DiskOp) where
       → NoOp⁺ (LoadingSuperblock s) s′ dop ⊎ Taken g (LoadingSuperblock s) s′ dop
   superblock-taken s (Source (WriteBackJournalReqStep jr)) a h = absurd (h .source)
   superblock-taken s (Source WriteBackJournalRespStep) a h = absurd h
-  superblock-taken s (Source WriteBackSuperblockReq-AdvanceLog-Step) a h = absurd h
-  superblock-taken s (Source WriteBackSuperblockReq-AdvanceLocation-Step) a h = absurd h
+  superblock-taken s (Source WriteBackSuperblockReq-AdvanceLog-Step) a h = absurd (h .source)
+  superblock-taken s (Source WriteBackSuperblockReq-AdvanceLocation-Step) a h = absurd (h .source)
   superblock-taken s (Source WriteBackSuperblockRespStep) a h = absurd h
   superblock-taken s (Source (PageInJournalReqStep which)) a h = absurd h
   superblock-taken s (Source (PageInJournalRespStep which)) a h = absurd (h .1)

@@ -1,25 +1,28 @@
 -- The departures take away what their named predicates say, and nothing else: a step of the source is an amended one or is taken away, never
--- both; an amended step is a step of the source; and so for the system's events but the two new ones.
+-- both; an amended step is a step of the source; and so for the system's events but the new ones (`New`).
+use Prim.Native.Nat.{ℕ}
 use mathlib.Core.Bool.{Bool, true, false, not, Bool-discrete}
-use mathlib.Core.Path.{_≡_, refl, sym, _∙_}
+use mathlib.Core.Path.{_≡_, refl, sym, _∙_, ap, subst}
 use mathlib.Core.List.{List, List-discrete}
 use mathlib.Core.Option.{Option, some}
 use mathlib.Core.Option
 use mathlib.Core.HLevel.{Discrete}
-use mathlib.Core.Logic.{_⊎_, inl, inr}
+use mathlib.Core.Logic.{_⊎_, inl, inr, ⊎-elim}
 use native.Mathlib.Decide.{ℕ-discrete}
 use Rattle.layout.specs.declared.Geometry.{Geometry}
-use Rattle.laws.specs.Sets.{Two, at}
+use Rattle.laws.specs.Sets.{keys, AtMost, Two, at}
 use Rattle.codec.specs.Codec.{JournalEntry, JournalRange, Codec}
 use Rattle.source.specs.JournalDisk as D
 use Rattle.source.specs.JournalDisk.{ReqId, DiskOp, ReqReadSuperblockOp, ReqReadJournalOp, ReqWriteSuperblockOp, ReqWriteJournalOp, RespReadSuperblockOp, RespReadJournalOp, RespWriteSuperblockOp, RespWriteJournalOp, NoDiskOp}
 use Rattle.source.specs.JournalCache as M
-use Rattle.source.specs.JournalCache.{Variables, Ready, LoadingOther, LoadingSuperblock, ReadyVariables, LoadingOtherVariables, LoadingSuperblockVariables, isReady, isLoadingOther, isLoadingSuperblock, toWrite, WriteBackJournalReq, PageInSuperblockReq, FinishLoadingOtherPhase, NoOp}
+use Rattle.source.specs.JournalCache.{Variables, Ready, LoadingOther, LoadingSuperblock, ReadyVariables, LoadingOtherVariables, LoadingSuperblockVariables, isReady, isLoadingOther, isLoadingSuperblock, syncReqsOf, toWrite, WriteBackJournalReq, PageInSuperblockReq, FinishLoadingOtherPhase, NoOp}
 use Rattle.source.specs.JournalCache.{Step, WriteBackJournalReqStep, WriteBackJournalRespStep, WriteBackSuperblockReq-AdvanceLog-Step, WriteBackSuperblockReq-AdvanceLocation-Step, WriteBackSuperblockRespStep, PageInJournalReqStep, PageInJournalRespStep, PageInSuperblockReqStep, PageInSuperblockRespStep, FinishLoadingSuperblockPhaseStep, FinishLoadingOtherPhaseStep, FreezeStep, ReceiveFrozenLocStep, AdvanceStep, ReplayStep, PushSyncReqStep, PopSyncReqStep, NoOpStep}
 use Rattle.source.specs.JournalSystem as Y
 use Rattle.source.specs.Limits.{Limits}
 use Rattle.source.specs.Meets.{SystemMeets}
-use Rattle.source.specs.Departures.{OneRange, WriteBackJournalReq⁺, OtherRange, FinishLoadingOtherPhase⁺, OtherPosition, Awaited, NoOp⁺, OtherSlotWaits, PageInSuperblockReq⁺, Source, DamagedJournalStep, AskAgainStep, SourceStep⁺, TakenAway, DiskCrash⁺, Event, MachineStep, DiskInternalStep, CrashStep, Allowed, SystemTakenAway}
+use Rattle.source.specs.Departures.{OneRange, WriteBackJournalReq⁺, OtherRange, FinishLoadingOtherPhase⁺, OtherPosition, Awaited, NoOp⁺, OtherSlotWaits, PageInSuperblockReq⁺, idleSync, CommitReq⁺, WaitsIdle, Source, DamagedJournalStep, AskAgainStep, SourceStep⁺, TakenAway, DiskCrash⁺, Event, MachineStep, DiskInternalStep, CrashStep, Allowed, SystemTakenAway}
+use Rattle.source.specs.Laws.Cases.{by-ready}
+use Rattle.source.specs.Laws.Idle.{sync-with, sync-counted, waits-moved, commit-departs, commit-source}
 
 range-discrete : Discrete JournalRange
 range-discrete = List-discrete (List-discrete ℕ-discrete)
@@ -125,47 +128,63 @@ pageInSuperblockReq-departs (LoadingSuperblock s) s′ dop which h = go (id? (at
 pageInSuperblockReq-departs (Ready s) s′ dop which h = absurd h
 pageInSuperblockReq-departs (LoadingOther s) s′ dop which h = absurd h
 
--- every step of the source is the source's
-pub source-next : (g : Geometry) (C : Codec) (s s′ : Variables) (dop : DiskOp) (step : Step) → SourceStep⁺ g C s s′ dop step → M.Next g C s s′ dop
-source-next g C s s′ dop (WriteBackJournalReqStep jr) h = (WriteBackJournalReqStep jr, h .source)
-source-next g C s s′ dop WriteBackJournalRespStep h = (WriteBackJournalRespStep, h)
-source-next g C s s′ dop WriteBackSuperblockReq-AdvanceLog-Step h = (WriteBackSuperblockReq-AdvanceLog-Step, h)
-source-next g C s s′ dop WriteBackSuperblockReq-AdvanceLocation-Step h = (WriteBackSuperblockReq-AdvanceLocation-Step, h)
-source-next g C s s′ dop WriteBackSuperblockRespStep h = (WriteBackSuperblockRespStep, h)
-source-next g C s s′ dop (PageInJournalReqStep which) h = (PageInJournalReqStep which, h)
-source-next g C s s′ dop (PageInJournalRespStep which) h = (PageInJournalRespStep (h .0), h .1)
-source-next g C s s′ dop (PageInSuperblockReqStep which) h = (PageInSuperblockReqStep which, h .source)
-source-next g C s s′ dop (PageInSuperblockRespStep which) h = (PageInSuperblockRespStep which, h)
-source-next g C s s′ dop FinishLoadingSuperblockPhaseStep h = (FinishLoadingSuperblockPhaseStep, h)
-source-next g C s s′ dop FinishLoadingOtherPhaseStep h = (FinishLoadingOtherPhaseStep, h .source)
-source-next g C s s′ dop FreezeStep h = (FreezeStep, h)
-source-next g C s s′ dop (ReceiveFrozenLocStep loc) h = (ReceiveFrozenLocStep loc, h)
-source-next g C s s′ dop (AdvanceStep new-je) h = (AdvanceStep new-je, h)
-source-next g C s s′ dop (ReplayStep replayed-je) h = (ReplayStep replayed-je, h)
-source-next g C s s′ dop (PushSyncReqStep id) h = (PushSyncReqStep id, h)
-source-next g C s s′ dop (PopSyncReqStep id) h = (PopSyncReqStep id, h)
-source-next g C s s′ dop NoOpStep h = (NoOpStep, h .source)
+-- the commit requests; in the source they leave the sync requests
+abbrev pub IsCommit : Step → Type 0
+IsCommit step = (step ≡ WriteBackSuperblockReq-AdvanceLog-Step) ⊎ (step ≡ WriteBackSuperblockReq-AdvanceLocation-Step)
 
-pub next-step-departs : (g : Geometry) (C : Codec) (s s′ : Variables) (dop : DiskOp) (step : Step)
+commit-leaves : (g : Geometry) (C : Codec) (s : Variables) (dop : DiskOp) (step : Step) → IsCommit step → (s′ : Variables) → M.NextStep g C s s′ dop step → syncReqsOf s′ ≡ syncReqsOf s
+commit-leaves g C s dop step (inl e) s′ h =
+    by-ready (λ t. syncReqsOf s′ ≡ syncReqsOf t) s (λ r. M.WriteBackSuperblockReq-AdvanceLogClauses g r s′ dop) (λ r k. ap syncReqsOf (k .next)) (subst (M.NextStep g C s s′ dop) e h)
+commit-leaves g C s dop step (inr e) s′ h =
+    by-ready (λ t. syncReqsOf s′ ≡ syncReqsOf t) s (λ r. M.WriteBackSuperblockReq-AdvanceLocationClauses g r s′ dop) (λ r k. ap syncReqsOf (k .next)) (subst (M.NextStep g C s s′ dop) e h)
+
+-- an amended commit request, over the source's step
+abbrev pub Amended : Geometry → Codec → Variables → Variables → DiskOp → Step → Type 0
+Amended g C s s′ dop step = CommitReq⁺ (λ s s′ dop. M.NextStep g C s s′ dop step) s s′ dop
+
+-- every amended step is the source's, but for a commit request
+pub source-next : (g : Geometry) (C : Codec) (s s′ : Variables) (dop : DiskOp) (step : Step) → SourceStep⁺ g C s s′ dop step → M.Next g C s s′ dop ⊎ (IsCommit step × Amended g C s s′ dop step)
+source-next g C s s′ dop (WriteBackJournalReqStep jr) h = inl (WriteBackJournalReqStep jr, h .source)
+source-next g C s s′ dop WriteBackJournalRespStep h = inl (WriteBackJournalRespStep, h)
+source-next g C s s′ dop WriteBackSuperblockReq-AdvanceLog-Step h = inr (inl refl, h)
+source-next g C s s′ dop WriteBackSuperblockReq-AdvanceLocation-Step h = inr (inr refl, h)
+source-next g C s s′ dop WriteBackSuperblockRespStep h = inl (WriteBackSuperblockRespStep, h)
+source-next g C s s′ dop (PageInJournalReqStep which) h = inl (PageInJournalReqStep which, h)
+source-next g C s s′ dop (PageInJournalRespStep which) h = inl (PageInJournalRespStep (h .0), h .1)
+source-next g C s s′ dop (PageInSuperblockReqStep which) h = inl (PageInSuperblockReqStep which, h .source)
+source-next g C s s′ dop (PageInSuperblockRespStep which) h = inl (PageInSuperblockRespStep which, h)
+source-next g C s s′ dop FinishLoadingSuperblockPhaseStep h = inl (FinishLoadingSuperblockPhaseStep, h)
+source-next g C s s′ dop FinishLoadingOtherPhaseStep h = inl (FinishLoadingOtherPhaseStep, h .source)
+source-next g C s s′ dop FreezeStep h = inl (FreezeStep, h)
+source-next g C s s′ dop (ReceiveFrozenLocStep loc) h = inl (ReceiveFrozenLocStep loc, h)
+source-next g C s s′ dop (AdvanceStep new-je) h = inl (AdvanceStep new-je, h)
+source-next g C s s′ dop (ReplayStep replayed-je) h = inl (ReplayStep replayed-je, h)
+source-next g C s s′ dop (PushSyncReqStep id) h = inl (PushSyncReqStep id, h)
+source-next g C s s′ dop (PopSyncReqStep id) h = inl (PopSyncReqStep id, h)
+source-next g C s s′ dop NoOpStep h = inl (NoOpStep, h .source)
+
+pub next-step-departs : (g : Geometry) (C : Codec) (s s′ : Variables) (dop : DiskOp) (step : Step) (n : ℕ) → AtMost n (keys (syncReqsOf s))
     → M.NextStep g C s s′ dop step → SourceStep⁺ g C s s′ dop step ⊎ TakenAway C s s′ dop step
-next-step-departs g C s s′ dop (WriteBackJournalReqStep jr) h = writeBackJournalReq-departs g C s s′ dop jr h
-next-step-departs g C s s′ dop WriteBackJournalRespStep h = inl h
-next-step-departs g C s s′ dop WriteBackSuperblockReq-AdvanceLog-Step h = inl h
-next-step-departs g C s s′ dop WriteBackSuperblockReq-AdvanceLocation-Step h = inl h
-next-step-departs g C s s′ dop WriteBackSuperblockRespStep h = inl h
-next-step-departs g C s s′ dop (PageInJournalReqStep which) h = inl h
-next-step-departs g C s s′ dop (PageInJournalRespStep which) h = inl (which, h)
-next-step-departs g C s s′ dop (PageInSuperblockReqStep which) h = pageInSuperblockReq-departs s s′ dop which h
-next-step-departs g C s s′ dop (PageInSuperblockRespStep which) h = inl h
-next-step-departs g C s s′ dop FinishLoadingSuperblockPhaseStep h = inl h
-next-step-departs g C s s′ dop FinishLoadingOtherPhaseStep h = finishLoadingOtherPhase-departs g C s s′ dop h
-next-step-departs g C s s′ dop FreezeStep h = inl h
-next-step-departs g C s s′ dop (ReceiveFrozenLocStep loc) h = inl h
-next-step-departs g C s s′ dop (AdvanceStep new-je) h = inl h
-next-step-departs g C s s′ dop (ReplayStep replayed-je) h = inl h
-next-step-departs g C s s′ dop (PushSyncReqStep id) h = inl h
-next-step-departs g C s s′ dop (PopSyncReqStep id) h = inl h
-next-step-departs g C s s′ dop NoOpStep h = noOp-departs s s′ dop h
+next-step-departs g C s s′ dop (WriteBackJournalReqStep jr) n f h = writeBackJournalReq-departs g C s s′ dop jr h
+next-step-departs g C s s′ dop WriteBackJournalRespStep n f h = inl h
+next-step-departs g C s s′ dop WriteBackSuperblockReq-AdvanceLog-Step n f h =
+    commit-departs n s s′ dop (M.WriteBackSuperblockReq-AdvanceLog g) f (commit-leaves g C s dop WriteBackSuperblockReq-AdvanceLog-Step (inl refl)) h
+next-step-departs g C s s′ dop WriteBackSuperblockReq-AdvanceLocation-Step n f h =
+    commit-departs n s s′ dop (M.WriteBackSuperblockReq-AdvanceLocation g) f (commit-leaves g C s dop WriteBackSuperblockReq-AdvanceLocation-Step (inr refl)) h
+next-step-departs g C s s′ dop WriteBackSuperblockRespStep n f h = inl h
+next-step-departs g C s s′ dop (PageInJournalReqStep which) n f h = inl h
+next-step-departs g C s s′ dop (PageInJournalRespStep which) n f h = inl (which, h)
+next-step-departs g C s s′ dop (PageInSuperblockReqStep which) n f h = pageInSuperblockReq-departs s s′ dop which h
+next-step-departs g C s s′ dop (PageInSuperblockRespStep which) n f h = inl h
+next-step-departs g C s s′ dop FinishLoadingSuperblockPhaseStep n f h = inl h
+next-step-departs g C s s′ dop FinishLoadingOtherPhaseStep n f h = finishLoadingOtherPhase-departs g C s s′ dop h
+next-step-departs g C s s′ dop FreezeStep n f h = inl h
+next-step-departs g C s s′ dop (ReceiveFrozenLocStep loc) n f h = inl h
+next-step-departs g C s s′ dop (AdvanceStep new-je) n f h = inl h
+next-step-departs g C s s′ dop (ReplayStep replayed-je) n f h = inl h
+next-step-departs g C s s′ dop (PushSyncReqStep id) n f h = inl h
+next-step-departs g C s s′ dop (PopSyncReqStep id) n f h = inl h
+next-step-departs g C s s′ dop NoOpStep n f h = noOp-departs s s′ dop h
 
 -- and what is taken away is no step any more
 pub taken-apart : (g : Geometry) (C : Codec) (s s′ : Variables) (dop : DiskOp) (step : Step) → SourceStep⁺ g C s s′ dop step → TakenAway C s s′ dop step → ⊥
@@ -173,8 +192,8 @@ taken-apart g C (Ready s) s′ dop (WriteBackJournalReqStep jr) h t = t (h .one-
 taken-apart g C (LoadingOther s) s′ dop (WriteBackJournalReqStep jr) h t = t
 taken-apart g C (LoadingSuperblock s) s′ dop (WriteBackJournalReqStep jr) h t = t
 taken-apart g C s s′ dop WriteBackJournalRespStep h t = t
-taken-apart g C s s′ dop WriteBackSuperblockReq-AdvanceLog-Step h t = t
-taken-apart g C s s′ dop WriteBackSuperblockReq-AdvanceLocation-Step h t = t
+taken-apart g C s s′ dop WriteBackSuperblockReq-AdvanceLog-Step h t = waits-moved s (t .0) (sym (ap syncReqsOf (h .next) ∙ sync-with (idleSync s) (h .asked)) ∙ t .1)
+taken-apart g C s s′ dop WriteBackSuperblockReq-AdvanceLocation-Step h t = waits-moved s (t .0) (sym (ap syncReqsOf (h .next) ∙ sync-with (idleSync s) (h .asked)) ∙ t .1)
 taken-apart g C s s′ dop WriteBackSuperblockRespStep h t = t
 taken-apart g C s s′ dop (PageInJournalReqStep which) h t = t
 taken-apart g C s s′ dop (PageInJournalRespStep which) h t = t
@@ -195,19 +214,29 @@ taken-apart g C s s′ dop NoOpStep h t = h .unawaited t
 pub diskCrash-pictured : (g : Geometry) (s s′ : D.Variables) → D.Crash g s s′ → DiskCrash⁺ g s s′ (s′ .journal)
 diskCrash-pictured g s s′ h = record { source = h; from-picture = λ i l t. refl }
 
--- the events that are new
-abbrev pub New : Event → Type 0
-New (MachineStep dop (Source step)) = ⊥
-New (MachineStep dop DamagedJournalStep) = Unit {0}
-New (MachineStep dop (AskAgainStep which)) = Unit {0}
-New (DiskInternalStep step) = ⊥
-New (CrashStep picture) = ⊥
+-- the events that are new: a damaged journal answer, ask again, and a commit request that moves a sync request
+abbrev pub New : Y.Variables → Event → Type 0
+New s (MachineStep dop (Source step)) = IsCommit step × WaitsIdle (s .machine)
+New s (MachineStep dop DamagedJournalStep) = Unit {0}
+New s (MachineStep dop (AskAgainStep which)) = Unit {0}
+New s (DiskInternalStep step) = ⊥
+New s (CrashStep picture) = ⊥
 
 -- every event that is not new is a step of the source
-pub allowed-next : (g : Geometry) (C : Codec) (L : Limits) (s s′ : Y.Variables) (event : Event) → Allowed g C L s s′ event → New event ⊎ Y.Next g C s s′
+pub allowed-next : (g : Geometry) (C : Codec) (L : Limits) (s s′ : Y.Variables) (event : Event) → Allowed g C L s s′ event → New s event ⊎ Y.Next g C s s′
 allowed-next g C L s s′ (MachineStep dop (Source step)) h =
-    let n = source-next g C (s .machine) (s′ .machine) dop step (h .step .machine) in
-    inr (Y.Step.MachineStep dop (n .0), record { machine = n .1; disk = h .step .disk })
+    ⊎-elim
+    (λ n. inr (Y.Step.MachineStep dop (n .0), record { machine = n .1; disk = h .step .disk }))
+    (λ n. commit (n .0) (n .1))
+    (source-next g C (s .machine) (s′ .machine) dop step (h .step .machine))
+  where
+    commit : IsCommit step → Amended g C (s .machine) (s′ .machine) dop step → New s (MachineStep dop (Source step)) ⊎ Y.Next g C s s′
+    commit c a =
+        ⊎-elim
+        (λ m. inr (Y.Step.MachineStep dop step, record { machine = m; disk = h .step .disk }))
+        (λ w. inl (c, w))
+        (commit-source (L .syncReqs) (s .machine) (s′ .machine) dop (λ s s′ dop. M.NextStep g C s s′ dop step) (sync-counted L (s .machine) (h .meets .machine .counts))
+        (commit-leaves g C (s .machine) dop step c) a)
 allowed-next g C L s s′ (MachineStep dop DamagedJournalStep) h = inl tt
 allowed-next g C L s s′ (MachineStep dop (AskAgainStep which)) h = inl tt
 allowed-next g C L s s′ (DiskInternalStep step) h = inr (Y.Step.DiskInternalStep step, h .step)
@@ -222,7 +251,7 @@ eventOf s′ Y.Step.CrashStep = CrashStep (s′ .disk .journal)
 -- every step of the source from a state that meets question 2 is allowed, but for what is taken away
 pub next-allowed : (g : Geometry) (C : Codec) (L : Limits) (s s′ : Y.Variables) (step : Y.Step) → SystemMeets g L s → Y.NextStep g C s s′ step
     → Allowed g C L s s′ (eventOf s′ step) ⊎ SystemTakenAway C s s′ step
-next-allowed g C L s s′ (Y.Step.MachineStep dop machineStep) m h = go (next-step-departs g C (s .machine) (s′ .machine) dop machineStep (h .machine))
+next-allowed g C L s s′ (Y.Step.MachineStep dop machineStep) m h = go (next-step-departs g C (s .machine) (s′ .machine) dop machineStep (L .syncReqs) (sync-counted L (s .machine) (m .machine .counts)) (h .machine))
   where
     go : SourceStep⁺ g C (s .machine) (s′ .machine) dop machineStep ⊎ TakenAway C (s .machine) (s′ .machine) dop machineStep
         → Allowed g C L s s′ (MachineStep dop (Source machineStep)) ⊎ TakenAway C (s .machine) (s′ .machine) dop machineStep

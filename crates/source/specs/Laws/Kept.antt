@@ -66,9 +66,9 @@ module _ (g : Geometry) (C : Codec) (s s′ : M.Variables) (dop : DiskOp) where
       go (M.Variables.LoadingSuperblock r) k o = absurd k
   step-blocks (Source WriteBackJournalRespStep) h = by-ready blocks s (λ r. M.WriteBackJournalRespClauses r s′ dop) (λ r k. by-op (RespWriteJournalOp (k .id)) (k .op) tt) h
   step-blocks (Source WriteBackSuperblockReq-AdvanceLog-Step) h =
-      by-ready blocks s (λ r. M.WriteBackSuperblockReq-AdvanceLogClauses g r s′ dop) (λ r k. by-op (ReqWriteSuperblockOp (k .id) (k .which) (k .req)) (k .op) tt) h
+      by-ready blocks s (λ r. M.WriteBackSuperblockReq-AdvanceLogClauses g r (h .asked) dop) (λ r k. by-op (ReqWriteSuperblockOp (k .id) (k .which) (k .req)) (k .op) tt) (h .source)
   step-blocks (Source WriteBackSuperblockReq-AdvanceLocation-Step) h =
-      by-ready blocks s (λ r. M.WriteBackSuperblockReq-AdvanceLocationClauses g r s′ dop) (λ r k. by-op (ReqWriteSuperblockOp (k .id) (k .which) (k .req)) (k .op) tt) h
+      by-ready blocks s (λ r. M.WriteBackSuperblockReq-AdvanceLocationClauses g r (h .asked) dop) (λ r k. by-op (ReqWriteSuperblockOp (k .id) (k .which) (k .req)) (k .op) tt) (h .source)
   step-blocks (Source WriteBackSuperblockRespStep) h = by-ready blocks s (λ r. M.WriteBackSuperblockRespClauses r s′ dop) (λ r k. by-op (RespWriteSuperblockOp (k .id) (k .which)) (k .op) tt) h
   step-blocks (Source (PageInJournalReqStep which)) h = by-other blocks s (λ r. M.PageInJournalReqClauses g r s′ dop which) (λ r k. by-op (ReqReadJournalOp (k .id) (k .interval)) (k .op) tt) h
   step-blocks (Source (PageInJournalRespStep which)) h =

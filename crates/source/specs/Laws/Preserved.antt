@@ -3,6 +3,7 @@
 use mathlib.Core.Bool.{Bool, true, false, cond, not}
 use mathlib.Core.Path.{_≡_, refl, sym, _∙_, ap, subst}
 use mathlib.Core.List.{_++_}
+use mathlib.Core.Logic.{⊎-elim}
 use mathlib.Core.Option.{Option, none, some}
 use native.Mathlib.Omega.{arith}
 use Rattle.laws.specs.Choice.{ruin, true-false, split-bool}
@@ -15,7 +16,7 @@ use Rattle.laws.specs.Sets.{Map, bind, unbind, at, put, none-some, at-both}
 use Rattle.codec.specs.Codec.{JournalRange, Codec}
 use Rattle.source.specs.JournalDisk.{ReqId, DiskOp}
 use Rattle.source.specs.JournalCache
-use Rattle.source.specs.Departures.{DamagedJournalClauses, AskAgainClauses, Step⁺, Source, DamagedJournalStep, AskAgainStep, NextStep⁺}
+use Rattle.source.specs.Departures.{idleSync, DamagedJournalClauses, AskAgainClauses, Step⁺, Source, DamagedJournalStep, AskAgainStep, NextStep⁺}
 use Rattle.source.specs.JournalCache.{Variables, Ready, LoadingOther, LoadingSuperblock, ReadyVariables, LoadingOtherVariables, LoadingSuperblockVariables, SyncReqStatus, State3, SuperblockReadResult, SuperblockSuccess, SuperblockUnfinished, SuperblockCorruption}
 use Rattle.source.specs.JournalCache.{to-superblocks, to-outstandingSuperblockReads, superblockRead, journalIntervalOfSuperblock, withSyncReqs, syncReqsOf, unlessIs}
 use Rattle.source.specs.JournalCache.{InvLoadingSuperblock, InvLoadingOther, InvReady, Inv, NextStep}
@@ -220,7 +221,11 @@ module _ (g : Geometry) where
 
   -- and of the amended machine
   pub inv-kept⁺ : (C : Codec) (s s′ : Variables) (dop : DiskOp) (step : Step⁺) → Inv g s → NextStep⁺ g C s s′ dop step → Inv g s′
-  inv-kept⁺ C s s′ dop (Source step) h k = let n = source-next g C s s′ dop step k in inv-kept C s s′ dop (n .0) h (n .1)
+  inv-kept⁺ C s s′ dop (Source step) h k =
+      ⊎-elim
+      (λ n. inv-kept C s s′ dop (n .0) h (n .1))
+      (λ n. by-next g (n .1 .next) (inv-sync (n .1 .asked) (idleSync s) (inv-kept C s (n .1 .asked) dop step h (n .1 .source))))
+      (source-next g C s s′ dop step k)
   inv-kept⁺ C (Ready s) s′ dop DamagedJournalStep h k = absurd k
   inv-kept⁺ C (LoadingOther s) s′ dop DamagedJournalStep h k = inv-damaged s s′ dop h k
   inv-kept⁺ C (LoadingSuperblock s) s′ dop DamagedJournalStep h k = absurd k

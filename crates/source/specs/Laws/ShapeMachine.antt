@@ -56,8 +56,8 @@ module _ (g : Geometry) (L : Limits) where
       → NextStep⁺ g C (LoadingSuperblock s) s′ dop step → MachineShape g L s′
   superblock-shape C s s′ dop (Source (WriteBackJournalReqStep jr)) h k = absurd (k .source)
   superblock-shape C s s′ dop (Source WriteBackJournalRespStep) h k = absurd k
-  superblock-shape C s s′ dop (Source WriteBackSuperblockReq-AdvanceLog-Step) h k = absurd k
-  superblock-shape C s s′ dop (Source WriteBackSuperblockReq-AdvanceLocation-Step) h k = absurd k
+  superblock-shape C s s′ dop (Source WriteBackSuperblockReq-AdvanceLog-Step) h k = absurd (k .source)
+  superblock-shape C s s′ dop (Source WriteBackSuperblockReq-AdvanceLocation-Step) h k = absurd (k .source)
   superblock-shape C s s′ dop (Source WriteBackSuperblockRespStep) h k = absurd k
   superblock-shape C s s′ dop (Source (PageInJournalReqStep which)) h k = absurd k
   superblock-shape C s s′ dop (Source (PageInJournalRespStep which)) h k = absurd (k .1)
@@ -181,8 +181,8 @@ module _ (g : Geometry) (L : Limits) where
       → AwaitedPiece g (LoadingOther s) dop → NextStep⁺ g C (LoadingOther s) s′ dop step → MachineShape g L s′
   other-shape C fits s s′ dop (Source (WriteBackJournalReqStep jr)) inv h a k = absurd (k .source)
   other-shape C fits s s′ dop (Source WriteBackJournalRespStep) inv h a k = absurd k
-  other-shape C fits s s′ dop (Source WriteBackSuperblockReq-AdvanceLog-Step) inv h a k = absurd k
-  other-shape C fits s s′ dop (Source WriteBackSuperblockReq-AdvanceLocation-Step) inv h a k = absurd k
+  other-shape C fits s s′ dop (Source WriteBackSuperblockReq-AdvanceLog-Step) inv h a k = absurd (k .source)
+  other-shape C fits s s′ dop (Source WriteBackSuperblockReq-AdvanceLocation-Step) inv h a k = absurd (k .source)
   other-shape C fits s s′ dop (Source WriteBackSuperblockRespStep) inv h a k = absurd k
   other-shape C fits s s′ dop (Source (PageInJournalReqStep which)) inv h a k = asked-shape s h s′ dop which k
   other-shape C fits s s′ dop (Source (PageInJournalRespStep which)) inv h a k = answered-shape s h s′ dop (k .0) a (k .1)

@@ -1,5 +1,5 @@
 -- A machine's shape is kept at Ready: what is pending and what is left to replay has an allowed length through every step there.
-use mathlib.Core.Path.{_≡_, sym, ap, subst}
+use mathlib.Core.Path.{_≡_, sym, _∙_, ap, subst}
 use mathlib.Core.List.{List, [], _∷_, _++_}
 use mathlib.Core.Logic.{⊎-elim}
 use native.Mathlib.Omega.{arith}
@@ -10,11 +10,11 @@ use Rattle.layout.specs.declared.Geometry.{Geometry}
 use Rattle.codec.specs.Codec.{JournalEntry, EntryFits, EntriesFit, Codec}
 use Rattle.source.specs.JournalDisk.{DiskOp}
 use Rattle.source.specs.JournalCache
-use Rattle.source.specs.JournalCache.{Variables, Ready, LoadingOther, LoadingSuperblock, ReadyVariables, isReady, InvReady, ifNone}
+use Rattle.source.specs.JournalCache.{Variables, Ready, LoadingOther, LoadingSuperblock, ReadyVariables, isReady, withSyncReqs, InvReady, ifNone}
 use Rattle.source.specs.JournalCache.{WriteBackJournalReqStep, WriteBackJournalRespStep, WriteBackSuperblockReq-AdvanceLog-Step, WriteBackSuperblockReq-AdvanceLocation-Step, WriteBackSuperblockRespStep, PageInJournalReqStep, PageInJournalRespStep, PageInSuperblockReqStep, PageInSuperblockRespStep, FinishLoadingSuperblockPhaseStep, FinishLoadingOtherPhaseStep, FreezeStep, ReceiveFrozenLocStep, AdvanceStep, ReplayStep, PushSyncReqStep, PopSyncReqStep, NoOpStep}
 use Rattle.source.specs.Limits.{Limits}
 use Rattle.source.specs.Meets.{ReplayShape, ReadyShape, MachineShape}
-use Rattle.source.specs.Departures.{Step⁺, Source, DamagedJournalStep, AskAgainStep, NextStep⁺}
+use Rattle.source.specs.Departures.{idleSync, Step⁺, Source, DamagedJournalStep, AskAgainStep, NextStep⁺}
 use Rattle.source.specs.Within.{StepArguments}
 
 module _ (g : Geometry) (L : Limits) where
@@ -56,8 +56,8 @@ module _ (g : Geometry) (L : Limits) where
       by-shape (k .source .next)
       (record { frozen-fit = tt; memory-fit = memory-left (s .inMemoryJournalFrozen) (s .inMemoryJournal) (h .memory-fit); replay = h .replay })
   ready-shape C s s′ dop (Source WriteBackJournalRespStep) inv h a k = by-shape (k .next) (record { frozen-fit = h .frozen-fit; memory-fit = h .memory-fit; replay = h .replay })
-  ready-shape C s s′ dop (Source WriteBackSuperblockReq-AdvanceLog-Step) inv h a k = by-shape (k .next) (record { frozen-fit = h .frozen-fit; memory-fit = h .memory-fit; replay = h .replay })
-  ready-shape C s s′ dop (Source WriteBackSuperblockReq-AdvanceLocation-Step) inv h a k = by-shape (k .next) (record { frozen-fit = h .frozen-fit; memory-fit = h .memory-fit; replay = h .replay })
+  ready-shape C s s′ dop (Source WriteBackSuperblockReq-AdvanceLog-Step) inv h a k = by-shape (k .next ∙ ap (withSyncReqs (idleSync (Ready s))) (k .source .next)) (record { frozen-fit = h .frozen-fit; memory-fit = h .memory-fit; replay = h .replay })
+  ready-shape C s s′ dop (Source WriteBackSuperblockReq-AdvanceLocation-Step) inv h a k = by-shape (k .next ∙ ap (withSyncReqs (idleSync (Ready s))) (k .source .next)) (record { frozen-fit = h .frozen-fit; memory-fit = h .memory-fit; replay = h .replay })
   ready-shape C s s′ dop (Source WriteBackSuperblockRespStep) inv h a k = answer-shape s s′ dop inv h k
   ready-shape C s s′ dop (Source (PageInJournalReqStep which)) inv h a k = absurd k
   ready-shape C s s′ dop (Source (PageInJournalRespStep which)) inv h a k = absurd (k .1)

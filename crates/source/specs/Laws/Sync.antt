@@ -1,20 +1,21 @@
--- What every step does to the sync requests. A freeze and a write of entries in memory move State3 to State2, and a commit's awaited answer moves
--- State2 to State1; a push brings one and a pop takes one. No other step touches them: both commit requests leave them, a write of frozen
--- entries and a landing too. A crash leaves none.
-use mathlib.Core.Path.{_≡_, refl, sym, _∙_, ap}
+-- What every step does to the sync requests. A freeze, a write of entries in memory, and a commit request with none in memory move State3 to
+-- State2, and a commit's awaited answer moves State2 to State1; a push brings one and a pop takes one. No other step touches them: a write of
+-- frozen entries and a landing leave them. A crash leaves none.
+use mathlib.Core.Path.{_≡_, sym, _∙_, ap}
 use mathlib.Core.Logic.{⊎-elim}
 use Rattle.laws.specs.Sets.{Map, no-keys, bind, unbind}
 use Rattle.layout.specs.declared.Geometry.{Geometry}
 use Rattle.codec.specs.Codec.{Codec}
 use Rattle.source.specs.JournalDisk.{DiskOp}
 use Rattle.source.specs.JournalCache as M
-use Rattle.source.specs.JournalCache.{Variables, Ready, LoadingOther, LoadingSuperblock, SyncReqStatus, State3, syncReqsOf, withSyncReqs, syncReqs3to2, syncReqs2to1, isReady, ifNone, Inv}
+use Rattle.source.specs.JournalCache.{Variables, Ready, LoadingOther, LoadingSuperblock, SyncReqStatus, State3, syncReqsOf, syncReqs3to2, syncReqs2to1, isReady, ifNone, Inv}
 use Rattle.source.specs.JournalCache.{WriteBackJournalReqStep, WriteBackJournalRespStep, WriteBackSuperblockReq-AdvanceLog-Step, WriteBackSuperblockReq-AdvanceLocation-Step, WriteBackSuperblockRespStep, PageInJournalReqStep, PageInJournalRespStep, PageInSuperblockReqStep, PageInSuperblockRespStep, FinishLoadingSuperblockPhaseStep, FinishLoadingOtherPhaseStep, FreezeStep, ReceiveFrozenLocStep, AdvanceStep, ReplayStep, PushSyncReqStep, PopSyncReqStep, NoOpStep}
 use Rattle.source.specs.JournalSystem as Y
 use Rattle.source.specs.JournalSystem.{onReady}
 use Rattle.source.specs.Limits.{Limits}
-use Rattle.source.specs.Departures.{DamagedJournalClauses, AskAgainClauses, Step⁺, Source, DamagedJournalStep, AskAgainStep, NextStep⁺, Event, MachineStep, DiskInternalStep, CrashStep, Allowed}
+use Rattle.source.specs.Departures.{idleSync, DamagedJournalClauses, AskAgainClauses, Step⁺, Source, DamagedJournalStep, AskAgainStep, NextStep⁺, Event, MachineStep, DiskInternalStep, CrashStep, Allowed}
 use Rattle.source.specs.Laws.Cases.{by-ready, by-other, by-superblock}
+use Rattle.source.specs.Laws.Idle.{sync-with}
 
 -- by the frozen entries: if there are none, those in memory are written
 abbrev pub writeSync : Variables → Map SyncReqStatus
@@ -26,8 +27,8 @@ stepSync s (Source FreezeStep) = syncReqs3to2 (syncReqsOf s)
 stepSync s (Source WriteBackSuperblockRespStep) = syncReqs2to1 (syncReqsOf s)
 stepSync s (Source (PushSyncReqStep id)) = bind (syncReqsOf s) id State3
 stepSync s (Source (PopSyncReqStep id)) = unbind (syncReqsOf s) id
-stepSync s (Source WriteBackSuperblockReq-AdvanceLog-Step) = syncReqsOf s
-stepSync s (Source WriteBackSuperblockReq-AdvanceLocation-Step) = syncReqsOf s
+stepSync s (Source WriteBackSuperblockReq-AdvanceLog-Step) = idleSync s
+stepSync s (Source WriteBackSuperblockReq-AdvanceLocation-Step) = idleSync s
 stepSync s (Source WriteBackJournalRespStep) = syncReqsOf s
 stepSync s (Source (PageInJournalReqStep which)) = syncReqsOf s
 stepSync s (Source (PageInJournalRespStep which)) = syncReqsOf s
@@ -47,11 +48,6 @@ eventSync s (MachineStep dop machineStep) = stepSync (s .machine) machineStep
 eventSync s (DiskInternalStep step) = syncReqsOf (s .machine)
 eventSync s (CrashStep picture) = no-keys
 
-sync-with : (x : Map SyncReqStatus) (s : Variables) → syncReqsOf (withSyncReqs x s) ≡ x
-sync-with x (Ready s) = refl
-sync-with x (LoadingOther s) = refl
-sync-with x (LoadingSuperblock s) = refl
-
 module _ (g : Geometry) (C : Codec) (s s′ : Variables) (dop : DiskOp) where
   -- what is to be shown, over the machine before
   abbrev leads : Step⁺ → Variables → Type 0
@@ -69,10 +65,8 @@ module _ (g : Geometry) (C : Codec) (s s′ : Variables) (dop : DiskOp) where
       go (LoadingSuperblock r) inv k = absurd k
   step-sync (Source (PushSyncReqStep id)) inv h = ap syncReqsOf (h .next) ∙ sync-with (bind (syncReqsOf s) id State3) s
   step-sync (Source (PopSyncReqStep id)) inv h = ap syncReqsOf (h .next) ∙ sync-with (unbind (syncReqsOf s) id) s
-  step-sync (Source WriteBackSuperblockReq-AdvanceLog-Step) inv h =
-      by-ready (leads (Source WriteBackSuperblockReq-AdvanceLog-Step)) s (λ r. M.WriteBackSuperblockReq-AdvanceLogClauses g r s′ dop) (λ r k. ap syncReqsOf (k .next)) h
-  step-sync (Source WriteBackSuperblockReq-AdvanceLocation-Step) inv h =
-      by-ready (leads (Source WriteBackSuperblockReq-AdvanceLocation-Step)) s (λ r. M.WriteBackSuperblockReq-AdvanceLocationClauses g r s′ dop) (λ r k. ap syncReqsOf (k .next)) h
+  step-sync (Source WriteBackSuperblockReq-AdvanceLog-Step) inv h = ap syncReqsOf (h .next) ∙ sync-with (idleSync s) (h .asked)
+  step-sync (Source WriteBackSuperblockReq-AdvanceLocation-Step) inv h = ap syncReqsOf (h .next) ∙ sync-with (idleSync s) (h .asked)
   step-sync (Source WriteBackJournalRespStep) inv h = by-ready (leads (Source WriteBackJournalRespStep)) s (λ r. M.WriteBackJournalRespClauses r s′ dop) (λ r k. ap syncReqsOf (k .next)) h
   step-sync (Source (PageInJournalReqStep which)) inv h = by-other (leads (Source (PageInJournalReqStep which))) s (λ r. M.PageInJournalReqClauses g r s′ dop which) (λ r k. ap syncReqsOf (k .next)) h
   step-sync (Source (PageInJournalRespStep which)) inv h =

@@ -23,12 +23,12 @@ use Rattle.codec.specs.Codec.{JournalEntry, JournalRange, Codec}
 use Rattle.source.specs.JournalDisk as D
 use Rattle.source.specs.JournalDisk.{ReqId, ReqWriteJournal, DiskOp, ReqReadSuperblockOp, ReqReadJournalOp, ReqWriteSuperblockOp, ReqWriteJournalOp, RespReadSuperblockOp, RespReadJournalOp, RespWriteSuperblockOp, RespWriteJournalOp, NoDiskOp, JournalUntouched, written, written1, written2}
 use Rattle.source.specs.JournalCache as M
-use Rattle.source.specs.JournalCache.{Variables, Ready, LoadingOther, LoadingSuperblock, ReadyVariables, LoadingOtherVariables, LoadingSuperblockVariables, isReady, isLoadingOther, isLoadingSuperblock, CommitStatus, CommitNone, CommitAdvanceLog, CommitAdvanceLocation, InvReady}
+use Rattle.source.specs.JournalCache.{Variables, Ready, LoadingOther, LoadingSuperblock, ReadyVariables, LoadingOtherVariables, LoadingSuperblockVariables, isReady, isLoadingOther, isLoadingSuperblock, withSyncReqs, CommitStatus, CommitNone, CommitAdvanceLog, CommitAdvanceLocation, InvReady}
 use Rattle.source.specs.JournalCache.{Step, WriteBackJournalReqStep, WriteBackJournalRespStep, WriteBackSuperblockReq-AdvanceLog-Step, WriteBackSuperblockReq-AdvanceLocation-Step, WriteBackSuperblockRespStep, PageInJournalReqStep, PageInJournalRespStep, PageInSuperblockReqStep, PageInSuperblockRespStep, FinishLoadingSuperblockPhaseStep, FinishLoadingOtherPhaseStep, FreezeStep, ReceiveFrozenLocStep, AdvanceStep, ReplayStep, PushSyncReqStep, PopSyncReqStep, NoOpStep}
 use Rattle.source.specs.JournalSystem as Y
 use Rattle.source.specs.Limits.{Limits}
 use Rattle.source.specs.Meets.{LoadingOtherShape, MachineMeets}
-use Rattle.source.specs.Departures.{FinishLoadingOtherPhase⁺, PageInJournalResp⁺, DamagedJournalClauses, DamagedJournal, AskAgainClauses, AskAgain, SourceStep⁺, Step⁺, Source, DamagedJournalStep, AskAgainStep, NextStep⁺, DiskCrash⁺, Event, MachineStep, DiskInternalStep, CrashStep, Allowed}
+use Rattle.source.specs.Departures.{FinishLoadingOtherPhase⁺, idleSync, PageInJournalResp⁺, DamagedJournalClauses, DamagedJournal, AskAgainClauses, AskAgain, SourceStep⁺, Step⁺, Source, DamagedJournalStep, AskAgainStep, NextStep⁺, DiskCrash⁺, Event, MachineStep, DiskInternalStep, CrashStep, Allowed}
 use Rattle.source.specs.Within.{DiskEvent, Operation, Internal, Crashed, DiskStep⁺}
 
 -- The disk
@@ -279,8 +279,8 @@ module _ (g : Geometry) (C : Codec) (L : Limits) (s s′ s″ : Variables) (dop 
   pub source-step-one : (step : Step) → MachineMeets g L s → SourceStep⁺ g C s s′ dop step → SourceStep⁺ g C s s″ dop step → s′ ≡ s″
   source-step-one (WriteBackJournalReqStep jr) m h k = writeBackJournalReq-one g C s s′ s″ dop jr (h .source) (k .source)
   source-step-one WriteBackJournalRespStep m h k = writeBackJournalResp-one g C s s′ s″ dop h k
-  source-step-one WriteBackSuperblockReq-AdvanceLog-Step m h k = advanceLog-one g C s s′ s″ dop h k
-  source-step-one WriteBackSuperblockReq-AdvanceLocation-Step m h k = advanceLocation-one g C s s′ s″ dop h k
+  source-step-one WriteBackSuperblockReq-AdvanceLog-Step m h k = h .next ∙ ap (withSyncReqs (idleSync s)) (advanceLog-one g C s (h .asked) (k .asked) dop (h .source) (k .source)) ∙ sym (k .next)
+  source-step-one WriteBackSuperblockReq-AdvanceLocation-Step m h k = h .next ∙ ap (withSyncReqs (idleSync s)) (advanceLocation-one g C s (h .asked) (k .asked) dop (h .source) (k .source)) ∙ sym (k .next)
   source-step-one WriteBackSuperblockRespStep m h k = writeBackSuperblockResp-one g s s′ s″ dop (m .inv) h k
   source-step-one (PageInJournalReqStep which) m h k = pageInJournalReq-one g C s s′ s″ dop which h k
   source-step-one (PageInJournalRespStep which) m h k = pageInJournalResp-one g L s s′ s″ dop m h k

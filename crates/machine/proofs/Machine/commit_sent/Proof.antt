@@ -1,7 +1,6 @@
 use mathlib.Core.Path.{_∙_}
 use Rattle.superblock.specs.declared.DiskOp.the-variants as op
 use Rattle.machine.specs.Machine.{accepted}
-use Rattle.machine.specs.Working.{commitRequested}
 use borrow.Author.Needs.{needs}
 use Rattle.machine.proofs.Machine.commit_sent.Statement.{statement}
 use Rattle.machine.proofs.Machine.commit_sent.Tie as tie
@@ -16,7 +15,6 @@ accepted-requires : tie.Need-accepted-requires
 accepted-requires c κs = search needs
 
 returns : tie.Need-returns
-unfolding commitRequested
 returns c = c .accepted .ensures ∙ (λ i. accepted (op.ReqWriteSuperblock (c .before .before .before .args .id) (c .before .before .slot .ensures i) (c .before .before .before .args .superblock)) (c .before .commit-requested .ensures i))
 
 pub commit-sent-spec : {M : Type 1} → statement M

@@ -22,15 +22,15 @@ use Rattle.codec.specs.Codec.{JournalEntry, Codec}
 use Rattle.source.specs.JournalDisk as D
 use Rattle.source.specs.JournalDisk.{ReqId, ReqWriteJournal, ReqWriteSuperblockId, ReqWriteSuperblockOp, ReqWriteJournalOp, RespWriteSuperblockOp, RespWriteJournalOp, NoDiskOp, ProcessWriteSuperblockStep, written}
 use Rattle.source.specs.JournalCache as M
-use Rattle.source.specs.JournalCache.{CommitNone, CommitAdvanceLog, CommitAdvanceLocation, WriteBackJournalReqStep, WriteBackJournalRespStep, WriteBackSuperblockReq-AdvanceLog-Step, WriteBackSuperblockReq-AdvanceLocation-Step, WriteBackSuperblockRespStep, FreezeStep, ReceiveFrozenLocStep, AdvanceStep, ifNone, toWrite, joinIds, advancedLog, advancedLocation}
+use Rattle.source.specs.JournalCache.{CommitNone, CommitAdvanceLog, CommitAdvanceLocation, WriteBackJournalReqStep, WriteBackJournalRespStep, WriteBackSuperblockReq-AdvanceLog-Step, WriteBackSuperblockReq-AdvanceLocation-Step, WriteBackSuperblockRespStep, FreezeStep, ReceiveFrozenLocStep, AdvanceStep, PushSyncReqStep, State3, ifNone, toWrite, joinIds, advancedLog, advancedLocation}
 use Rattle.source.specs.JournalSystem as Y
 use Rattle.source.specs.Limits.{Limits, Fitting}
 use Rattle.source.specs.Meets.{SystemMeets}
 use Rattle.source.specs.Laws.Format.{write-good}
-use Rattle.source.specs.Departures.{Source, MachineStep, DiskInternalStep, WriteBackJournalReq⁺, Event, Allowed}
-use Rattle.history.specs.Ledger.{writeJournal, journalWritten, commitLog, commitLocation, superblockWritten, freeze, receive, add, land}
+use Rattle.source.specs.Departures.{idleSync, Source, MachineStep, DiskInternalStep, WriteBackJournalReq⁺, Event, Allowed}
+use Rattle.history.specs.Ledger.{writeJournal, journalWritten, commitLog, commitLocation, superblockWritten, freeze, receive, add, pushSync, land}
 use Rattle.history.specs.Journal.Holds.{pos-add-in}
-use Rattle.history.specs.Statement.{Tied, tied-write, tied-written, tied-log, tied-location, tied-committed, tied-freeze, tied-receive, tied-add, tied-land, Takes}
+use Rattle.history.specs.Statement.{Tied, tied-write, tied-written, tied-log, tied-location, tied-committed, tied-freeze, tied-receive, tied-add, tied-push, tied-land, Takes}
 
 abbrev pub store : M.ReadyVariables → D.Variables → Y.Variables
 store s d = record { machine = M.Variables.Ready s; disk = d }
@@ -60,7 +60,7 @@ wroteDisk C s d place n writes = D.to-journal (updated (d .journal) (interval pl
 
 -- a commit asked for: the machine, and the disk with the write in flight
 abbrev pub askedNow : M.CommitStatus → ReqId → Superblock → M.ReadyVariables → M.ReadyVariables
-askedNow c id new s = M.to-newSuperblock (some new) (M.to-superblockWrite (some id) (M.to-commitStatus c s))
+askedNow c id new s = M.to-syncReqs (idleSync (M.Variables.Ready s)) (M.to-newSuperblock (some new) (M.to-superblockWrite (some id) (M.to-commitStatus c s)))
 
 abbrev pub askedDisk : M.ReadyVariables → D.Variables → ReqId → Superblock → D.Variables
 askedDisk s d id new = D.to-reqWriteSuperblocks (put (d .reqWriteSuperblocks) (not (s .whichSuperblock)) (some (record { id = id; req = record { superblock = new } }))) d
@@ -98,6 +98,14 @@ module _ {g : Geometry} {C : Codec} {L : Limits} {s : M.ReadyVariables} {d : D.V
         event = MachineStep NoDiskOp (Source (AdvanceStep es));
         tied = tied-add;
         allowed = record { meets = q; step = record { machine = record { op = refl; replayed = e; next = refl }; disk = record { next = refl } } };
+      }
+
+  pub can-push : (id : ℕ) → s .syncReqs id ≡ none → Takes g C L (store s d) (store (M.to-syncReqs (bind (s .syncReqs) id State3) s) d) (pushSync id)
+  can-push id e =
+      record {
+        event = MachineStep NoDiskOp (Source (PushSyncReqStep id));
+        tied = tied-push;
+        allowed = record { meets = q; step = record { machine = record { op = refl; new = e; next = refl }; disk = record { next = refl } } };
       }
 
   pub can-freeze : s .superblockWrite ≡ none → (s .frozenLoc ≡ some (s .superblock .indirectionTableLoc) → ⊥) → s .replayJournal ≡ [] → Takes g C L (store s d) (store (frozenNow s) d) freeze
@@ -246,16 +254,21 @@ module _ {g : Geometry} {C : Codec} {L : Limits} {s : M.ReadyVariables} {d : D.V
                     record {
                       machine =
                           record {
-                            id = id;
-                            which = not (s .whichSuperblock);
-                            req = record { superblock = advancedLog s };
-                            op = refl;
-                            no-commit = no-commit;
-                            all-written = all-written;
-                            none-frozen = none-frozen;
-                            which-is = refl;
-                            written-in = q .machine .inv .written-in;
-                            superblock-is = refl;
+                            asked = M.Variables.Ready (M.to-newSuperblock (some (advancedLog s)) (M.to-superblockWrite (some id) (M.to-commitStatus CommitAdvanceLog s)));
+                            source =
+                                record {
+                                  id = id;
+                                  which = not (s .whichSuperblock);
+                                  req = record { superblock = advancedLog s };
+                                  op = refl;
+                                  no-commit = no-commit;
+                                  all-written = all-written;
+                                  none-frozen = none-frozen;
+                                  which-is = refl;
+                                  written-in = q .machine .inv .written-in;
+                                  superblock-is = refl;
+                                  next = refl;
+                                };
                             next = refl;
                           };
                       disk = record { new1 = new1; new2 = new2; next = refl };
@@ -276,20 +289,25 @@ module _ {g : Geometry} {C : Codec} {L : Limits} {s : M.ReadyVariables} {d : D.V
                     record {
                       machine =
                           record {
-                            id = id;
-                            which = not (s .whichSuperblock);
-                            req = record { superblock = advancedLocation g s loc };
-                            op = refl;
-                            loc = loc;
-                            received = received;
-                            no-commit = no-commit;
-                            all-written = all-written;
-                            none-frozen = none-frozen;
-                            which-is = refl;
-                            start-in = q .machine .inv .superblock-wf .start-in;
-                            position-in = q .machine .inv .if-frozen (q .machine .inv .if-received loc received .frozen) .position-written;
-                            written-in = q .machine .inv .written-in;
-                            superblock-is = refl;
+                            asked = M.Variables.Ready (M.to-newSuperblock (some (advancedLocation g s loc)) (M.to-superblockWrite (some id) (M.to-commitStatus CommitAdvanceLocation s)));
+                            source =
+                                record {
+                                  id = id;
+                                  which = not (s .whichSuperblock);
+                                  req = record { superblock = advancedLocation g s loc };
+                                  op = refl;
+                                  loc = loc;
+                                  received = received;
+                                  no-commit = no-commit;
+                                  all-written = all-written;
+                                  none-frozen = none-frozen;
+                                  which-is = refl;
+                                  start-in = q .machine .inv .superblock-wf .start-in;
+                                  position-in = q .machine .inv .if-frozen (q .machine .inv .if-received loc received .frozen) .position-written;
+                                  written-in = q .machine .inv .written-in;
+                                  superblock-is = refl;
+                                  next = refl;
+                                };
                             next = refl;
                           };
                       disk = record { new1 = new1; new2 = new2; next = refl };
@@ -346,14 +364,14 @@ module _ {g : Geometry} {C : Codec} {L : Limits} {s : M.ReadyVariables} {d : D.V
 -- what a day's refused calls break
 module _ {g : Geometry} {C : Codec} {L : Limits} {s : M.ReadyVariables} {d : D.Variables} (t : Y.Variables) (id : ReqId) where
   location-needs : (e : Event) → Tied (commitLocation id) e → Allowed g C L (store s d) t e → s .frozenLoc ≡ none → ⊥
-  location-needs e tied-location a q = none-some q (a .step .machine .received)
+  location-needs e tied-location a q = none-some q (a .step .machine .source .received)
 
   -- a location commit before a location was received
   pub no-location : s .frozenLoc ≡ none → Takes g C L (store s d) t (commitLocation id) → ⊥
   no-location q h = location-needs (h .event) (h .tied) (h .allowed) q
 
   log-needs : (e : Event) → Tied (commitLog id) e → Allowed g C L (store s d) t e → s .outstandingJournalWrites ≡ no-ids
-  log-needs e tied-log a = a .step .machine .all-written
+  log-needs e tied-log a = a .step .machine .source .all-written
 
   -- a log commit with a journal write outstanding
   pub no-log : (k : ReqId) → s .outstandingJournalWrites k ≡ true → Takes g C L (store s d) t (commitLog id) → ⊥
