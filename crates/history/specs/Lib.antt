@@ -1,11 +1,14 @@
 pub mod Ledger
 pub mod Statement
+pub mod Coverage
 pub mod Before
 pub mod Demand
+pub mod Sync
 pub mod Calls
 pub mod Journal
 pub mod Simulation
 pub mod Whole
 pub mod Loads
 pub mod Reach
+pub mod Covering
 pub mod Example

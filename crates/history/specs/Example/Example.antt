@@ -28,7 +28,9 @@ use Rattle.source.specs.Limits.{limits}
 use Rattle.source.specs.Departures.{CrashStep}
 use Rattle.history.specs.Ledger.{Call, writeJournal, journalWritten, commitLog, commitLocation, superblockWritten, readSuperblock, superblockRead, finishSuperblocks, finishOther, freeze, receive, add, pushSync, askAgain, land, crash, nonsense, blocks, readJournal, journalRead, Kept, fresh, begin, tell, books, Shown, shown}
 use Rattle.history.specs.Statement.{tied-crash, Takes, shows, Loaded}
+use Rattle.history.specs.Coverage.{firstPage, said, pages, enter, Covered}
 use Rattle.history.specs.Demand.{demand-3}
+use Rattle.history.specs.Sync.{sync-covered}
 use Rattle.history.specs.Whole.Lists.{books-append, books-loads}
 use Rattle.history.specs.Loads.Comes.{loadCalls, taken}
 use Rattle.history.specs.Simulation.Relation.{superOf}
@@ -192,3 +194,12 @@ example = (example-loads .0, example-loads .1, example-shows)
 -- second with nothing in memory, so that the log commit's request moved it.
 pub example-saved : (syncReqsOf (s29 .machine) 8 ≡ some State1) × (syncReqsOf (s29 .machine) 9 ≡ some State1)
 example-saved = (refl, refl)
+
+-- so each was covered by a landing (Coverage)
+pub example-covered : (id : ℕ) → syncReqsOf (s29 .machine) id ≡ some State1 → Covered g format (firstPage (begin (SuperblockOfDisk g (first .disk) (init .wf)))) (said day answers) id
+example-covered = sync-covered g first table1 init day answers s29 (walked walk)
+
+-- the day's account: nothing was loaded, four lots were added, and the first of them was dropped
+pub example-account : pages g format (firstPage (begin sb0)) (said day answers) .account ≡ record { loaded = []; added = large ++ (small ++ (large ++ small)); dropped = large }
+unfolding day answers pages enter tell books blocks flat large small
+example-account = λ i. record { loaded = []; added = large ++ (small ++ (large ++ small)); dropped = append-nil large i }
