@@ -9,8 +9,16 @@ use mathlib.Core.Option.{Option, none, some}
 use lib.Dec.{eqb}
 use Rattle.laws.specs.Cut.{flat}
 use Rattle.laws.specs.Fold.{Each}
+use Rattle.laws.specs.Sets.{no-ids}
 use Rattle.layout.specs.declared.Geometry.{Geometry}
 use Rattle.codec.specs.Codec.{JournalEntry, Codec}
+use Rattle.source.specs.JournalDisk.{ReqId}
+use Rattle.source.specs.JournalCache as M
+use Rattle.source.specs.JournalCache.{SyncReqStatus, State1, syncReqsOf}
+use Rattle.source.specs.JournalSystem as Y
+use Rattle.source.specs.Limits.{Limits}
+use Rattle.source.specs.Meets.{SystemMeets}
+use Rattle.history.specs.Statement.{Trace}
 use Rattle.history.specs.Ledger.{Call, writeJournal, journalWritten, commitLog, commitLocation, superblockWritten, readJournal, journalRead, readSuperblock, superblockRead, finishSuperblocks, finishOther, freeze, receive, add, replay, pushSync, popSync, noOp, askAgain, land, crash, nonsense, Kept, Draft, Commit, log, location, Request, Ledger, heard}
 
 -- a call and whether it was accepted
@@ -141,3 +149,21 @@ pub record Covered (g : Geometry) (C : Codec) (p : Page) (xs : List Said) (id : 
   pub first-landing : pages g C p (before ++ yes (pushSync id) ∷ between) .ledger .request ≡ some request
   pub rest : List JournalEntry
   pub covers : covered-here (pages g C p (before ++ yes (pushSync id) ∷ (between ++ yes (land which) ∷ []))) ≡ before-here (pages g C p before) ++ rest
+
+-- A save with nothing new entered. A store at work is idle with no entry in memory or frozen, no journal write outstanding and no commit in flight.
+pub record Idle (r : M.ReadyVariables) : Type 0 where
+  pub none-in-memory : r .inMemoryJournal ≡ []
+  pub none-frozen : r .inMemoryJournalFrozen ≡ []
+  pub none-outstanding : r .outstandingJournalWrites ≡ no-ids
+  pub no-commit : r .superblockWrite ≡ none
+
+-- a log commit under any id, its landing and its answer
+abbrev pub saving : ReqId → Bool → List Call
+saving k which = commitLog k ∷ land which ∷ superblockWritten k ∷ []
+
+-- all three are taken, to a store that question 2 passes, and every sync request that was there is at State1
+pub record Saved (g : Geometry) (C : Codec) (L : Limits) (s : Y.Variables) (k : ReqId) (which : Bool) : Type 0 where
+  pub end : Y.Variables
+  pub taken : Trace g C L s (saving k which) (true ∷ true ∷ true ∷ []) end
+  pub meets : SystemMeets g L end
+  pub done : (id : ℕ) (v : SyncReqStatus) → syncReqsOf (s .machine) id ≡ some v → syncReqsOf (end .machine) id ≡ some State1

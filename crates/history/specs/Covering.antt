@@ -4,3 +4,4 @@ pub mod Flow
 pub mod Known
 pub mod Steps
 pub mod Whole
+pub mod Save

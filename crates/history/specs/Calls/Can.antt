@@ -1,5 +1,5 @@
 -- A machine at Ready, from a state that meets question 2: a call whose conditions hold is allowed, and leads to the state written here; a call
--- that breaks a condition is not. Only what the example day takes and refuses.
+-- that breaks a condition is not. Only what the example day and a save on an idle store take and refuse.
 use Prim.Native.Nat.{ℕ, _+_, _-_, _≤_, _<_}
 use mathlib.Core.Bool.{Bool, true, false, not}
 use mathlib.Core.Path.{subst, _≡_, refl, sym, _∙_, ap}
