@@ -1,4 +1,4 @@
-//! The commit machine (000), with document 01's departures.
+//! The commit machine (000), with document 01's departures and document 02's S-2.
 
 use std::collections::{BTreeMap, BTreeSet};
 
@@ -329,6 +329,10 @@ impl Machine {
             }
             (Step::CommitLog { id } | Step::CommitLocation { id }, Phase::Ready(r)) => {
                 r.commit = r.committing(g, *id, advance(step));
+                // With nothing in memory this commit has all that was added before the requests (S-2).
+                if r.memory.is_empty() {
+                    self.move_sync(Sync::State3, Sync::State2);
+                }
             }
             (Step::SuperblockWritten { id }, Phase::Ready(r)) => {
                 if let Some(commit) = r.commit.take_if(|c| c.id == *id) {

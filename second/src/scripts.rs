@@ -94,11 +94,12 @@ pub(crate) const DAYS: &[Script] = &[
     @brew, @load, replay, replay 41 =6, add 41 00 43 #1x255, wj 1, add #14x1, wj 2, aj 1, aj 2, cl 3, land 1, ac 3, crash, @front
     replay, replay 42 =6, replay 41 01 =6, replay 4100 =6, replay 41, replay 41 =6, replay 00 43 44 =6, replay 00 43, replay #17x1 =4, replay #1x256 =4
     add 41 =6, freeze =6, cl 1, replay #1x254 =6, replay #1x255, land 0, ac 1, replay #15x1 =6, replay #14x1, replay #1x1 =6, replay, add 45, freeze"),
-("sync-requests", "`push`, `pop`: State3 at the push, State2 at a write of entries in memory or at a freeze, State1 at a commit's answer; an id known (5), unknown (5), not yet at State1 (6)", "
+("sync-requests", "`push`, `pop`: State3 at the push; State2 at a write of entries in memory, at a freeze, or at a commit's request with none in memory; State1 at a commit's answer; an id known (5), unknown (5), not yet at State1 (6)", "
     @brew, push 1, push 1 =5, pop 2 =5, pop 1 =6, @load, push 2, add 41, wj 1, push 3, pop 2 =6, aj 1, cl 2, push 4, pop 1 =6, land 1, pop 1 =6, ac 2
-    pop 1, pop 1 =5, push 1, pop 3 =6, freeze, push 5, cl 3, land 0, ac 3, pop 3, pop 5 =6, pop 2, pop 4, pop 1, crash, pop 5 =5, push 5"),
-("sync-idle", "a request on an idle store stays at State3 through commits, until a freeze; writing frozen entries leaves it there too", "
-    @brew, @load, push 1, cl 2, land 1, ac 2, pop 1 =6, add 41, freeze, push 2, wj 3, aj 3, cl 4, land 0, ac 4, pop 1, pop 2 =6, freeze, cl 5, land 1, ac 5, pop 2"),
+    pop 1, pop 1 =5, push 1, pop 3, freeze, push 5, cl 3, land 0, ac 3, pop 3 =5, pop 5, pop 2, pop 4, pop 1, crash, pop 5 =5, push 5"),
+("sync-idle", "a save with nothing new entered: the request of a log commit takes it from State3 to State2, the answer to State1; so too when frozen entries were written before, while replay entries are left, and after an `add` of none", "
+    @brew, @load, push 1, cl 2, land 1, ac 2, pop 1, add 41, freeze, push 2, wj 3, aj 3, cl 4, land 0, ac 4, pop 1 =5, pop 2
+    crash, push 3, @front, cl 5, land 1, ac 5, pop 3, replay 41, push 4, add, cl 6, land 0, ac 6, pop 4"),
 ("sync-full", "32 sync requests; the 33rd is an 8, a known id a 5 even then", "
     @brew, push 0, push 1, push 2, push 3, push 4, push 5, push 6, push 7, push 8, push 9, push 10, push 11, push 12, push 13, push 14, push 15
     push 16, push 17, push 18, push 19, push 20, push 21, push 22, push 23, push 24, push 25, push 26, push 27, push 28, push 29, push 30, push 18446744073709551615

@@ -4,6 +4,7 @@ mod border;
 mod handed;
 mod sector;
 mod sectors;
+mod sync;
 
 use std::fs;
 use std::path::Path;
@@ -197,19 +198,6 @@ fn long_lines() {
     assert_eq!(day.len(), starts.len());
     assert!(day.iter().zip(starts).all(|(row, start)| row.starts_with(start)), "{day:?}");
     assert_eq!(rows(padded(disk, most + 1) + "noop"), ["line 0 is not a disk"]);
-}
-
-#[test]
-fn sync_requests_move_at_the_answer() {
-    let mut store = loaded();
-    let counts = |store: &Store| {
-        trace::row(1, Ok(()), store).split(' ').skip(13).take(3).map(String::from).collect::<Vec<_>>()
-    };
-    assert_eq!(play(&mut store, "push 9, add 41, wj 3, aj 3"), [0; 4]);
-    assert_eq!(counts(&store), ["0", "1", "0"]);
-    assert_eq!(play(&mut store, "pop 9, cl 4, ac 4, land 0, land 1, pop 9"), [6, 0, 6, 6, 0, 6]);
-    assert_eq!(counts(&store), ["0", "1", "0"]);
-    assert_eq!(play(&mut store, "ac 4, pop 9, pop 9"), [0, 0, 5]);
 }
 
 #[test]
