@@ -61,9 +61,10 @@ impl Ledger {
         self.ranges.iter().flatten()
     }
 
-    pub fn feed(&mut self, step: &Step, refused: bool) {
+    /// Takes a step; of a commit's first landing, the entries that it drops.
+    pub fn feed(&mut self, step: &Step, refused: bool) -> Option<Vec<Entry>> {
         if refused {
-            return;
+            return None;
         }
         let draft = &mut self.draft;
         match step {
@@ -83,27 +84,30 @@ impl Ledger {
             Step::ReceiveLocation(loc) => draft.location = Some(*loc),
             Step::CommitLog { .. } => self.commit = Some((Advance::Log, draft.clone())),
             Step::CommitLocation { .. } => self.commit = Some((Advance::Location, draft.clone())),
-            Step::Land { .. } => self.land(),
+            Step::Land { .. } => return self.land(),
             Step::Crash => {
                 self.draft = Draft { ranges: self.ranges.clone(), ..Draft::default() };
                 self.commit = None;
             }
             _ => {}
         }
+        None
     }
 
-    /// A commit's first landing; later ones find none.
-    fn land(&mut self) {
-        let Some((advance, mut then)) = self.commit.take() else { return };
+    /// A commit's first landing, and the entries that it drops; later ones find none.
+    fn land(&mut self) -> Option<Vec<Entry>> {
+        let (advance, mut then) = self.commit.take()?;
         self.counter = self.counter.wrapping_add(1);
+        let mut dropped = vec![];
         if advance == Advance::Location {
-            let dropped: Vec<_> = then.ranges.drain(..then.mark).collect();
+            dropped.extend(then.ranges.drain(..then.mark));
             self.draft.ranges.drain(..then.mark);
             self.draft.mark = 0;
             self.start = (self.start + blocks(&dropped)) % self.geometry.n();
             self.table = then.location.unwrap_or(self.table);
         }
         self.ranges = then.ranges;
+        Some(dropped.concat())
     }
 
     /// Does a store just loaded show exactly this ledger?

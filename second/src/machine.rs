@@ -211,6 +211,12 @@ impl Machine {
         self.sync.values_mut().filter(|s| **s == from).for_each(|s| *s = to);
     }
 
+    /// How many sync requests are at State1, State2 and State3.
+    pub fn sync_counts(&self) -> [usize; 3] {
+        let at = |state| self.sync.values().filter(|s| **s == state).count();
+        [Sync::State1, Sync::State2, Sync::State3].map(at)
+    }
+
     /// Questions 3 to 8 in order; on a yes to all, what is asked of the disk.
     pub fn ask(&self, step: &Step) -> Result<Op, Refusal> {
         use Refusal::*;

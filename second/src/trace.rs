@@ -3,7 +3,7 @@
 use std::fmt::Write as _;
 use std::io::{self, BufRead, BufReader, BufWriter, Read, Write};
 
-use crate::machine::{Phase, Piece, Sync};
+use crate::machine::{Phase, Piece};
 use crate::range::Entry;
 use crate::store::Store;
 use crate::superblock::Superblock;
@@ -93,8 +93,7 @@ pub fn row(n: u64, result: Result<(), Refusal>, store: &Store) -> String {
             )
         }
     };
-    for state in [Sync::State1, Sync::State2, Sync::State3] {
-        let count = store.machine.sync.values().filter(|s| **s == state).count();
+    for count in store.machine.sync_counts() {
         let _ = write!(row, " {count}");
     }
     let _ = write!(row, " {}", check(store));

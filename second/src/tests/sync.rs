@@ -1,21 +1,14 @@
 //! Sync requests: what moves them from State3 by State2 to State1, and what leaves them.
 
 use super::{loaded, play};
-use crate::machine::Sync;
 use crate::store::Store;
 
-/// How many requests are at State1, State2 and State3.
-fn counts(store: &Store) -> [usize; 3] {
-    let at = |state| store.machine.sync.values().filter(|s| **s == state).count();
-    [Sync::State1, Sync::State2, Sync::State3].map(at)
-}
-
-/// Plays lines that are taken; the requests after each.
+/// Plays lines that are taken; how many requests are then at State1, State2 and State3.
 fn taken(store: &mut Store, day: &str) -> Vec<[usize; 3]> {
     let mut after = vec![];
     for line in day.split(',') {
         assert_eq!(play(store, line), [0], "{line}");
-        after.push(counts(store));
+        after.push(store.machine.sync_counts());
     }
     after
 }
@@ -26,9 +19,9 @@ const ONE: [[usize; 3]; 3] = [[1, 0, 0], [0, 1, 0], [0, 0, 1]];
 fn they_move_at_the_answer() {
     let mut store = loaded();
     assert_eq!(play(&mut store, "push 9, add 41, wj 3, aj 3"), [0; 4]);
-    assert_eq!(counts(&store), ONE[1]);
+    assert_eq!(store.machine.sync_counts(), ONE[1]);
     assert_eq!(play(&mut store, "pop 9, cl 4, ac 4, land 0, land 1, pop 9"), [6, 0, 6, 6, 0, 6]);
-    assert_eq!(counts(&store), ONE[1]);
+    assert_eq!(store.machine.sync_counts(), ONE[1]);
     assert_eq!(play(&mut store, "ac 4, pop 9, pop 9"), [0, 0, 5]);
 }
 
