@@ -5,6 +5,7 @@
 
 pub mod conformance;
 pub mod coverage;
+pub mod covered;
 pub mod days;
 pub mod disk;
 pub mod handed;

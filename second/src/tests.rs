@@ -1,6 +1,7 @@
 //! Document 01's brew day, its wrong turns, demand 3 on random days, and the conformance files.
 
 mod border;
+mod covered;
 mod handed;
 mod sector;
 mod sectors;
