@@ -1,5 +1,5 @@
-//! Plays random days through two trace programs and compares every row; checks each load
-//! against the ledger, worked out from the lines and the refusals alone.
+//! Plays random days through two trace programs and compares every row; checks each load against the
+//! ledger, worked out from the lines and the refusals alone, and each request at State1 by its landings.
 #![forbid(unsafe_code)]
 
 use std::collections::BTreeMap;
@@ -11,6 +11,7 @@ use std::sync::Mutex;
 use std::time::Instant;
 
 use second::coverage::{Seen, SITUATIONS, STEPS};
+use second::covered::{Covered, REACHED};
 use second::days::{Day, Options};
 use second::layout::Location;
 use second::ledger::Ledger;
@@ -83,9 +84,10 @@ struct Loaded {
     committed: bool,
 }
 
-/// The ledger beside one program's rows.
+/// The ledger beside one program's rows, and what its landings covered.
 struct Audit {
     ledger: Option<Ledger>,
+    covered: Covered,
     loaded: Option<Loaded>,
     loads: u64,
 }
@@ -93,24 +95,32 @@ struct Audit {
 impl Audit {
     fn new(disk: &str) -> Self {
         let ledger = parse_disk(disk.as_bytes()).and_then(|(g, slots)| Ledger::new(g, slots));
-        Audit { ledger, loaded: None, loads: 0 }
+        Audit { covered: Covered::new(ledger.clone()), ledger, loaded: None, loads: 0 }
     }
 
-    /// Takes a step and its row; says what is not the ledger's.
+    /// Takes a step and its row; says what is not the ledger's, or which request isn't covered.
     fn feed(&mut self, step: &Step, row: &str) -> Result<(), String> {
-        let Some(ledger) = &mut self.ledger else { return Ok(()) };
         let columns: Vec<&str> = row.split(' ').collect();
-        let &[_, r, _, c, s, l, w, _, _, _, _, _, y, ..] = columns.as_slice() else {
+        let &[_, r, _, c, s, l, w, _, _, _, _, _, y, q1, q2, q3, _] = columns.as_slice() else {
             return Err("no row".into());
         };
-        let taken = r == "0";
+        let [Ok(q1), Ok(q2), Ok(q3)] = [q1, q2, q3].map(|q| q.parse::<u8>().map(usize::from)) else {
+            return Err("no number of sync requests".into());
+        };
+        self.covered.feed(step, r != "0", [q1, q2, q3])?;
+        self.shown(step, r == "0", [c, s, l, w, y])
+    }
+
+    /// What a load shows, and the steps after it that tell more of it.
+    fn shown(&mut self, step: &Step, taken: bool, row: [&str; 5]) -> Result<(), String> {
+        let Some(ledger) = &mut self.ledger else { return Ok(()) };
         ledger.feed(step, !taken);
         match (step, &mut self.loaded) {
             (Step::Crash, _) if taken => self.loaded = None,
             (Step::FinishJournal, _) if taken => {
                 let replay: Vec<Entry> = ledger.entries().cloned().collect();
                 let shown = [ledger.counter, ledger.start, ledger.len(), ledger.len(), replay.len() as u64];
-                if shown.map(|x| x.to_string()) != [c, s, l, w, y] {
+                if shown.map(|x| x.to_string()) != row {
                     return Err(format!("the ledger is c s l w y = {shown:?}"));
                 }
                 let table = ledger.table;
@@ -190,14 +200,7 @@ fn day(seed: u64, arguments: &Arguments) -> Result<Totals, String> {
             *totals.met.entry(("no step", "-".into())).or_default() += 1;
             continue;
         };
-        let refusal = rows[0].split(' ').nth(1).unwrap_or("-").to_string();
-        *totals.met.entry((step.word(), refusal)).or_default() += 1;
-        let before = store.clone();
-        let result = store.step(&step);
-        let seen = Seen { before: &before, step: &step, result, after: &store };
-        for (name, _) in SITUATIONS.iter().filter(|(_, holds)| holds(&seen)) {
-            *totals.situations.entry(name).or_default() += 1;
-        }
+        totals.count(&step, rows[0], &mut store);
         for (audit, row) in audits.iter_mut().zip(&rows) {
             audit.feed(&step, row).map_err(report)?;
         }
@@ -206,10 +209,29 @@ fn day(seed: u64, arguments: &Arguments) -> Result<Totals, String> {
         return Err(format!("seed {seed}: {} has rows after the day's end", arguments.programs[p]));
     }
     totals.loads = audits.iter().map(|a| a.loads).sum();
+    let reached = audits.first().map_or([0; REACHED.len()], |a| a.covered.reached);
+    totals.situations.extend(REACHED.into_iter().zip(reached).filter(|(_, count)| *count > 0));
     Ok(totals)
 }
 
+/// What is counted beside steps and refusals.
+fn situations() -> impl Iterator<Item = &'static str> {
+    SITUATIONS.iter().map(|(name, _)| *name).chain(REACHED)
+}
+
 impl Totals {
+    /// Counts a step by its row's refusal, and the situations that a store of ours is in with it.
+    fn count(&mut self, step: &Step, row: &str, store: &mut Store) {
+        let refusal = row.split(' ').nth(1).unwrap_or("-").to_string();
+        *self.met.entry((step.word(), refusal)).or_default() += 1;
+        let before = store.clone();
+        let result = store.step(step);
+        let seen = Seen { before: &before, step, result, after: store };
+        for (name, _) in SITUATIONS.iter().filter(|(_, holds)| holds(&seen)) {
+            *self.situations.entry(name).or_default() += 1;
+        }
+    }
+
     fn add(&mut self, other: Totals) {
         self.days += other.days;
         self.rows += other.rows;
@@ -235,7 +257,7 @@ impl Totals {
             println!("{word:>8}{}", counts.collect::<String>());
         }
         println!();
-        for (name, _) in SITUATIONS {
+        for name in situations() {
             println!("{:>8} {name}", self.situations.get(name).copied().unwrap_or(0));
         }
     }
@@ -244,8 +266,7 @@ impl Totals {
     fn missing(&self) -> Vec<String> {
         let steps = STEPS.iter().flat_map(|(word, numbers)| numbers.chars().map(|r| (*word, r.to_string())));
         let steps = steps.filter(|key| !self.met.contains_key(key)).map(|(word, r)| format!("{word} {r}"));
-        let situations = SITUATIONS.iter().map(|(name, _)| *name);
-        let situations = situations.filter(|name| !self.situations.contains_key(name)).map(String::from);
+        let situations = situations().filter(|name| !self.situations.contains_key(name)).map(String::from);
         steps.chain(situations).collect()
     }
 }
