@@ -43,6 +43,9 @@ pub const SITUATIONS: &[Situation] = &[
     ("8: too many bytes pending", |s| s.full_pending() == Some(false)),
     ("32 sync requests", |s| s.taken() && matches!(s.step, Step::Push { .. }) && s.after.machine.sync.len() == SYNC_REQUESTS),
     ("8: too many sync requests", |s| s.refused(Refusal::Room) && matches!(s.step, Step::Push { .. })),
+    ("a log commit with nothing in memory moves a sync request", |s| s.moves_requests(Advance::Log)),
+    ("a location commit with nothing in memory moves a sync request", |s| s.moves_requests(Advance::Location)),
+    ("a commit with entries in memory leaves a sync request at State3", |s| s.requested().is_some() && s.ready(|r| !r.memory.is_empty()) && s.waiting().1 > 0),
     ("a commit takes the counter from 2^64 - 1 to 0", |s| s.answered(|c, _| c.superblock.counter == 0)),
     ("a load selects slot 2 by counters 2^64 - 1, 0", |s| s.finished_superblocks(|a, b| (a, b) == (u64::MAX, 0))),
     ("a load selects slot 1 by counters apart", |s| s.finished_superblocks(|a, b| b != a && b != a.wrapping_add(1) && a != b.wrapping_add(1))),
@@ -133,6 +136,25 @@ impl Seen<'_> {
     fn answered(&self, holds: impl Fn(&crate::machine::Commit, &Ready) -> bool) -> bool {
         let awaited = self.ready(|r| r.commit.is_some_and(|c| holds(&c, r)));
         self.taken() && matches!(self.step, Step::SuperblockWritten { .. }) && awaited
+    }
+
+    /// The commit that is requested.
+    fn requested(&self) -> Option<Advance> {
+        match self.step {
+            Step::CommitLog { .. } if self.taken() => Some(Advance::Log),
+            Step::CommitLocation { .. } if self.taken() => Some(Advance::Location),
+            _ => None,
+        }
+    }
+
+    /// The sync requests at State3, before and after.
+    fn waiting(&self) -> (usize, usize) {
+        (self.before.machine.sync_counts()[2], self.after.machine.sync_counts()[2])
+    }
+
+    fn moves_requests(&self, advance: Advance) -> bool {
+        let (before, after) = self.waiting();
+        self.requested() == Some(advance) && before > after
     }
 
     /// A journal write refused by 8: has the ring no room?

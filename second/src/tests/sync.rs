@@ -1,7 +1,10 @@
 //! Sync requests: what moves them from State3 by State2 to State1, and what leaves them.
 
 use super::{loaded, play};
+use crate::coverage::{Seen, SITUATIONS};
+use crate::days::{Day, Options};
 use crate::store::Store;
+use crate::text::{parse_disk, parse_step};
 
 /// Plays lines that are taken; how many requests are then at State1, State2 and State3.
 fn taken(store: &mut Store, day: &str) -> Vec<[usize; 3]> {
@@ -82,4 +85,24 @@ fn a_commit_in_flight_leaves_them() {
     assert_eq!(taken(&mut store, "cl 4, push 9, land 1, push 8, land 1, ac 4")[5], [0, 0, 2]);
     assert_eq!(play(&mut store, "pop 9, pop 8"), [6, 6]);
     assert_eq!(taken(&mut store, "cl 4, land 0, ac 4"), [[0, 2, 0], [0, 2, 0], [2, 0, 0]]);
+}
+
+/// Random days meet commits that move requests, and commits that leave them.
+#[test]
+fn random_days_meet_these_commits() {
+    let situations: Vec<_> = SITUATIONS.iter().filter(|(name, _)| name.contains("in memory")).collect();
+    let mut met = [0; 3];
+    assert_eq!(situations.len(), met.len());
+    for seed in 1..=100 {
+        let mut day = Day::new(seed, Options { steps: 300, ledger: false, ill: false });
+        let (g, slots) = parse_disk(day.next().unwrap().as_bytes()).unwrap();
+        let mut store = Store::new(g, slots);
+        for step in day.filter_map(|line| parse_step(line.as_bytes())) {
+            let before = store.clone();
+            let result = store.step(&step);
+            let seen = Seen { before: &before, step: &step, result, after: &store };
+            met.iter_mut().zip(&situations).for_each(|(count, (_, holds))| *count += u32::from(holds(&seen)));
+        }
+    }
+    assert!(met.iter().all(|count| *count > 10), "{met:?}");
 }
