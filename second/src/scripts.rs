@@ -97,9 +97,18 @@ pub(crate) const DAYS: &[Script] = &[
 ("sync-requests", "`push`, `pop`: State3 at the push; State2 at a write of entries in memory, at a freeze, or at a commit's request with none in memory; State1 at a commit's answer; an id known (5), unknown (5), not yet at State1 (6)", "
     @brew, push 1, push 1 =5, pop 2 =5, pop 1 =6, @load, push 2, add 41, wj 1, push 3, pop 2 =6, aj 1, cl 2, push 4, pop 1 =6, land 1, pop 1 =6, ac 2
     pop 1, pop 1 =5, push 1, pop 3, freeze, push 5, cl 3, land 0, ac 3, pop 3 =5, pop 5, pop 2, pop 4, pop 1, crash, pop 5 =5, push 5"),
-("sync-idle", "a save with nothing new entered: the request of a log commit takes it from State3 to State2, the answer to State1; so too when frozen entries were written before, while replay entries are left, and after an `add` of none", "
+("sync-idle", "a request on an idle store: with nothing in memory `cl` takes it to State2, and the answer to State1; so too after frozen entries were written, while replay entries are left, after an `add` of none", "
     @brew, @load, push 1, cl 2, land 1, ac 2, pop 1, add 41, freeze, push 2, wj 3, aj 3, cl 4, land 0, ac 4, pop 1 =5, pop 2
     crash, push 3, @front, cl 5, land 1, ac 5, pop 3, replay 41, push 4, add, cl 6, land 0, ac 6, pop 4"),
+("sync-idle-location", "the same by `co`, which drops what was written before the freeze", "
+    @brew, @load, add 41, wj 1, aj 1, freeze, loc 45056 7, push 1, co 2, pop 1 =6, land 1, pop 1 =6, ac 2, pop 1, crash, @load"),
+("sync-in-memory", "an entry in memory at `cl` and at `co`: requests made before it was added and after stay at State3, until it is written", "
+    @brew, @load, freeze, loc 45056 7, push 1, add 41, push 2, cl 3, land 1, ac 3, pop 1 =6, co 4, land 0, ac 4, pop 1 =6, wj 5, aj 5, cl 6, land 1, pop 1 =6, ac 6
+    pop 1, pop 2, crash, @front, replay 41"),
+("sync-frozen", "frozen entries left, none in memory: `cl` and `co` are a 6, and a request stays at State3 until they are written", "
+    @brew, @load, add 41, freeze, loc 45056 7, push 1, cl 2 =6, co 2 =6, wj 3, cl 2 =6, co 2 =6, aj 3, pop 1 =6, cl 2, land 1, ac 2, pop 1"),
+("sync-after-request", "requests made while a commit is in flight, before its landing and between two, stay at State3 through the answer; the next commit takes them", "
+    @brew, @load, cl 1, push 1, land 1, push 2, land 1, ac 1, pop 1 =6, pop 2 =6, cl 2, land 0, ac 2, pop 1, pop 2"),
 ("sync-full", "32 sync requests; the 33rd is an 8, a known id a 5 even then", "
     @brew, push 0, push 1, push 2, push 3, push 4, push 5, push 6, push 7, push 8, push 9, push 10, push 11, push 12, push 13, push 14, push 15
     push 16, push 17, push 18, push 19, push 20, push 21, push 22, push 23, push 24, push 25, push 26, push 27, push 28, push 29, push 30, push 18446744073709551615
