@@ -1,6 +1,6 @@
 //! A second supplier's fermentation store: the journal, its commit machine and its disk,
-//! written from document 01 and the five Dafny files alone; its sectors from document 02's S-1, its empty
-//! intervals from S-3.
+//! written from document 01 and the five Dafny files alone; its sectors from document 02's S-1, its saves on
+//! an idle store from S-2, its empty intervals from S-3.
 #![forbid(unsafe_code)]
 
 pub mod conformance;
