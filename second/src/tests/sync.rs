@@ -29,7 +29,7 @@ fn they_move_at_the_answer() {
 }
 
 #[test]
-fn an_idle_save_goes_green() {
+fn an_idle_save_is_done() {
     let mut store = loaded();
     let [one, two, three] = ONE;
     assert_eq!(taken(&mut store, "push 9, cl 4, land 1, ac 4"), [three, two, two, one]);
