@@ -1,7 +1,7 @@
 -- The steps of a machine at work, after questions 1 and 2: what each asks, and the machine after it. An answer is taken in every kind: awaited by
 -- nobody, it alters nothing.
 use Prim.Native.Nat.{ℕ, _+_}
-use mathlib.Core.Bool.{Bool, true, false, cond}
+use mathlib.Core.Bool.{Bool, cond}
 use mathlib.Core.List.{List}
 use lib.Dec.{eqb}
 use lib.ListN.{take, drop}
@@ -20,7 +20,7 @@ use Rattle.memory.specs.declared.Count.{Count}
 use Rattle.memory.specs.declared.Counted.{Counted}
 use Rattle.memory.specs.declared.Counted.the-variants as counted
 use Rattle.memory.specs.Answer as answers
-use Rattle.memory.specs.Given.{memory, countOf, askGiven}
+use Rattle.memory.specs.Given.{memory, countOf, askGiven, askAdded}
 use Rattle.memory.specs.Replay.{isNext}
 use Rattle.writer.specs.Ring.{putRange}
 use Rattle.loading.specs.Which.{askWhich}
@@ -204,14 +204,14 @@ askReceiveFrozenLocStep g m loc = andThen (askReady m) (askReceiveFrozenLoc g (m
 unfoldable pub receiveFrozenLocMachine : Machine → Location → Machine
 receiveFrozenLocMachine m loc = withReady m (receiveFrozenLocNext (m .ready) loc)
 
--- Advance: 3, then 4 of the entries that the caller brings, which were counted; 6 and 8
+-- Advance: 3, then 4 and 13 of the entries that the caller brings, which were counted; 6 and 8
 abbrev pub countIn : Counted → Count
 countIn (counted.Now c) = c
 countIn (counted.Refused q) = count 0 0
 
 -- those that the first k of what the caller brings are
 abbrev pub givenOf : List ℕ → List ℕ → ℕ → Counted
-givenOf brought sizes k = answers.counted (askGiven (memory brought sizes k)) (countOf (memory brought sizes k))
+givenOf brought sizes k = answers.counted (askAdded (memory brought sizes k)) (countOf (memory brought sizes k))
 
 unfoldable pub askAdvanceStep : Machine → Bodies → Counted → ℕ
 askAdvanceStep m b given =

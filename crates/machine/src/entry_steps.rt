@@ -4,6 +4,7 @@ use super::MachineStepped;
 use memory::Count;
 use memory::Counted;
 use memory::append_entries;
+use memory::count_added;
 use memory::count_given;
 use memory::is_next;
 use ready::Bodies;
@@ -58,7 +59,7 @@ fn replay_given(
 }
 
 impl Machine {
-    // Questions 3, 4, 6 and 8 of an add, and what pending memory holds then.
+    // Questions 3, 4, 13, 6 and 8 of an add, and what pending memory holds then.
     fn advance_count(self, bodies: Bodies, given: Counted) -> Counted
         ensures { λ r. ⌜ r ≡ advanceCount self bodies given ⌝ }
     {
@@ -110,7 +111,7 @@ impl Machine {
         ensures { λ _. ⌜ now (bytes .exit) ≡ unless (askAdvanceStep self bodies (givenOf (now (brought .entry)) (now (sizes .entry)) k)) (now (bytes .entry)) (appendedBytes bodies (countOf (memory (now (brought .entry)) (now (sizes .entry)) k)) (now (brought .entry)) (now (bytes .entry))) ⌝ }
         ensures { λ _. ⌜ now (lens .exit) ≡ unless (askAdvanceStep self bodies (givenOf (now (brought .entry)) (now (sizes .entry)) k)) (now (lens .entry)) (appendedLens self (countOf (memory (now (brought .entry)) (now (sizes .entry)) k)) (now (sizes .entry)) (now (lens .entry))) ⌝ }
     {
-        let given = count_given(brought, sizes, k);
+        let given = count_added(brought, sizes, k);
         let after = self.advance_count(bodies, given);
         let q = after.refusal();
         if q != 0 {

@@ -6,8 +6,9 @@ use native.Mathlib.Omega.{arith}
 use lib.ListN.{length}
 use lib.Dec.{leb}
 use borrow.Author.Tests.{leb-true, le-leb}
-use Rattle.laws.specs.Choice.{also, ask, also-left, also-right, also-both, ask-yes, ask-holds, ask-fails, not-so, false-true}
+use Rattle.laws.specs.Choice.{also, andThen, ask, also-left, also-right, also-both, ask-yes, ask-holds, ask-fails, not-so, false-true}
 use Rattle.range.specs.Form.{Entry, MostEntryLength}
+use Rattle.range.specs.Blank.{noneBlank}
 use Rattle.range.specs.Memory.{view, total}
 use Rattle.lengths.specs.Entries.{Entries, entriesOk, entriesHeld, entries-facts, facts-entries, entries-bytes, entries-nothing, entries-small}
 use Rattle.lengths.specs.declared.Held.the-variants as held
@@ -40,6 +41,10 @@ MostGiven = 16
 -- question 4 of entries that a caller brings
 unfoldable pub askGiven : Memory → ℕ
 askGiven e = ask 4 (also (leb (e .count) MostGiven) (entriesOk (length (e .bytes)) (e .lens) 0 (e .count)))
+
+-- questions 4 and 13 of the entries that an add brings
+unfoldable pub askAdded : Memory → ℕ
+askAdded e = andThen (askGiven e) (ask 13 (noneBlank (entriesOf e)))
 
 pub record Given (e : Memory) : Type 0 where
   pub few : e .count ≤ MostGiven

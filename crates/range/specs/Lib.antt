@@ -1,4 +1,5 @@
 pub mod Form
+pub mod Blank
 pub mod Lengths
 pub mod Blocks
 pub mod Shape

@@ -13,6 +13,7 @@ use lib.ListN.{length, getD}
 use Rattle.layout.specs.declared.Geometry.{Geometry}
 use Rattle.interval.specs.Journal.{JournalBlock}
 use Rattle.laws.specs.Sets.{Map, at, put}
+use Rattle.range.specs.Blank.{noneBlank, SomeBlank}
 use Rattle.codec.specs.Codec.{JournalEntry, JournalRange, Codec}
 use Rattle.source.specs.JournalDisk as D
 use Rattle.source.specs.JournalDisk.{ReqId, DiskOp, ReqReadSuperblockOp, ReqReadJournalOp, ReqWriteSuperblockOp, ReqWriteJournalOp, RespReadSuperblockOp, RespReadJournalOp, RespWriteSuperblockOp, RespWriteJournalOp, NoDiskOp, JournalUntouched}
@@ -120,6 +121,13 @@ WaitsIdle s = isReady s (λ s. (s .inMemoryJournal ≡ []) × ((id : ℕ) × (s 
 abbrev pub SyncStays : Variables → Variables → Type 0
 SyncStays s s′ = WaitsIdle s × (syncReqsOf s′ ≡ syncReqsOf s)
 
+-- "It refuses an add with any entry of zeros only" (document 02, S-6); what is taken away is `SomeBlank`. Such entries that are pending, stored or to be
+-- replayed are as all others: no other step asks for it.
+
+pub record Advance⁺ (s s′ : Variables) (dop : DiskOp) (new-je : List JournalEntry) : Type 0 where
+  pub source : M.Advance s s′ dop new-je
+  pub none-blank : noneBlank new-je ≡ true
+
 -- The machine's steps with all this: `which` of a journal answer is not looked at.
 
 pub data Step⁺ : Type 0 where
@@ -141,7 +149,7 @@ SourceStep⁺ g C s s′ dop FinishLoadingSuperblockPhaseStep = M.FinishLoadingS
 SourceStep⁺ g C s s′ dop FinishLoadingOtherPhaseStep = FinishLoadingOtherPhase⁺ g C s s′ dop
 SourceStep⁺ g C s s′ dop FreezeStep = M.Freeze s s′ dop
 SourceStep⁺ g C s s′ dop (ReceiveFrozenLocStep loc) = M.ReceiveFrozenLoc g s s′ dop loc
-SourceStep⁺ g C s s′ dop (AdvanceStep new-je) = M.Advance s s′ dop new-je
+SourceStep⁺ g C s s′ dop (AdvanceStep new-je) = Advance⁺ s s′ dop new-je
 SourceStep⁺ g C s s′ dop (ReplayStep replayed-je) = M.Replay s s′ dop replayed-je
 SourceStep⁺ g C s s′ dop (PushSyncReqStep id) = M.PushSyncReq s s′ dop id
 SourceStep⁺ g C s s′ dop (PopSyncReqStep id) = M.PopSyncReq s s′ dop id
@@ -167,7 +175,7 @@ TakenAway C s s′ dop FinishLoadingSuperblockPhaseStep = ⊥
 TakenAway C s s′ dop FinishLoadingOtherPhaseStep = OtherPosition s′
 TakenAway C s s′ dop FreezeStep = ⊥
 TakenAway C s s′ dop (ReceiveFrozenLocStep loc) = ⊥
-TakenAway C s s′ dop (AdvanceStep new-je) = ⊥
+TakenAway C s s′ dop (AdvanceStep new-je) = SomeBlank new-je
 TakenAway C s s′ dop (ReplayStep replayed-je) = ⊥
 TakenAway C s s′ dop (PushSyncReqStep id) = ⊥
 TakenAway C s s′ dop (PopSyncReqStep id) = ⊥

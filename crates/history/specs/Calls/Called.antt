@@ -79,7 +79,7 @@ step-called g C m m′ dop (Source FinishLoadingOtherPhaseStep) h =
 step-called g C m m′ dop (Source FreezeStep) h = let k = ready-of m (λ s. M.FreezeClauses s m′ dop) h .1 in by-op (Source FreezeStep) (k .op) (freeze, tied-freeze)
 step-called g C m m′ dop (Source (ReceiveFrozenLocStep loc)) h =
     let k = ready-of m (λ s. M.ReceiveFrozenLocClauses g s m′ dop loc) h .1 in by-op (Source (ReceiveFrozenLocStep loc)) (k .op) (receive loc, tied-receive)
-step-called g C m m′ dop (Source (AdvanceStep es)) h = let k = ready-of m (λ s. M.AdvanceClauses s m′ dop es) h .1 in by-op (Source (AdvanceStep es)) (k .op) (add es, tied-add)
+step-called g C m m′ dop (Source (AdvanceStep es)) h = let k = ready-of m (λ s. M.AdvanceClauses s m′ dop es) (h .source) .1 in by-op (Source (AdvanceStep es)) (k .op) (add es, tied-add)
 step-called g C m m′ dop (Source (ReplayStep es)) h =
     let j = ready-of m (λ s. M.isReady m′ (λ s′. M.ReplayClauses s s′ dop es)) h in
     let k = ready-of m′ (λ s′. M.ReplayClauses (j .0) s′ dop es) (j .1) .1 in

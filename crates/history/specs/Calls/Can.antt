@@ -18,6 +18,7 @@ use Rattle.interval.specs.Journal.{JournalUpdate}
 use Rattle.interval.specs.Update.{updated, updated-is}
 use Rattle.superblock.specs.declared.Superblock.{Superblock}
 use Rattle.laws.specs.Sets.{Ids, no-ids, leave, Map, bind, unbind, at, put, none-some, same-value}
+use Rattle.range.specs.Blank.{noneBlank}
 use Rattle.codec.specs.Codec.{JournalEntry, Codec}
 use Rattle.source.specs.JournalDisk as D
 use Rattle.source.specs.JournalDisk.{ReqId, ReqWriteJournal, ReqWriteSuperblockId, ReqWriteSuperblockOp, ReqWriteJournalOp, RespWriteSuperblockOp, RespWriteJournalOp, NoDiskOp, ProcessWriteSuperblockStep, written}
@@ -92,12 +93,16 @@ abbrev pub answeredDisk : D.Variables → Bool → D.Variables
 answeredDisk d which = D.to-reqWriteSuperblocks (put (d .reqWriteSuperblocks) which none) d
 
 module _ {g : Geometry} {C : Codec} {L : Limits} {s : M.ReadyVariables} {d : D.Variables} (q : SystemMeets g L (record { machine = M.Variables.Ready s; disk = d })) where
-  pub can-add : (es : List JournalEntry) → s .replayJournal ≡ [] → Takes g C L (store s d) (store (M.to-inMemoryJournal (s .inMemoryJournal ++ es) s) d) (add es)
-  can-add es e =
+  pub can-add : (es : List JournalEntry) → s .replayJournal ≡ [] → noneBlank es ≡ true → Takes g C L (store s d) (store (M.to-inMemoryJournal (s .inMemoryJournal ++ es) s) d) (add es)
+  can-add es e b =
       record {
         event = MachineStep NoDiskOp (Source (AdvanceStep es));
         tied = tied-add;
-        allowed = record { meets = q; step = record { machine = record { op = refl; replayed = e; next = refl }; disk = record { next = refl } } };
+        allowed =
+            record {
+              meets = q;
+              step = record { machine = record { source = record { op = refl; replayed = e; next = refl }; none-blank = b }; disk = record { next = refl } };
+            };
       }
 
   pub can-push : (id : ℕ) → s .syncReqs id ≡ none → Takes g C L (store s d) (store (M.to-syncReqs (bind (s .syncReqs) id State3) s) d) (pushSync id)

@@ -362,7 +362,7 @@ module _ (g : Geometry) (C : Codec) (L : Limits) (par : ℕ) (p₀ : Page) (s t 
   knows-tied x e tied-finish-other a = plain x refl (λ id w. refl) (event-sync g C L s t e a) (finish-flying (s .machine) (t .machine) _ (a .step .machine .source))
   knows-tied x e tied-freeze a = knows-freeze (a .step .machine) (event-sync g C L s t e a)
   knows-tied x e (tied-receive {loc = loc}) a = knows-receive loc (from-ready _ (λ r c. ap flying (c .next)) (a .step .machine)) (event-sync g C L s t e a)
-  knows-tied x e (tied-add {es = es}) a = knows-add es (a .step .machine) (event-sync g C L s t e a)
+  knows-tied x e (tied-add {es = es}) a = knows-add es (a .step .machine .source) (event-sync g C L s t e a)
   knows-tied x e (tied-replay {es = es}) a = plain x refl (λ id w. refl) (event-sync g C L s t e a) (replay-flying (s .machine) (t .machine) _ es (a .step .machine))
   knows-tied x e (tied-push {id = id}) a = knows-push id (event-sync g C L s t e a) (ap flying (a .step .machine .next) ∙ flying-with (bind (syncReqsOf (s .machine)) id State3) (s .machine))
   knows-tied x e (tied-pop {id = id}) a = knows-pop id (event-sync g C L s t e a) (ap flying (a .step .machine .next) ∙ flying-with (unbind (syncReqsOf (s .machine)) id) (s .machine))

@@ -12,13 +12,12 @@ use Rattle.layout.specs.Journal.{JournalPosAdd}
 use Rattle.interval.specs.Interval.{interval}
 use Rattle.superblock.specs.Superblock.{IncrementSuperblockCounter}
 use Rattle.codec.specs.Format.{format}
-use Rattle.source.specs.JournalSystem as Y
 use Rattle.source.specs.Limits.{limits}
 use Rattle.source.specs.Laws.Format.{limits-fit}
 use Rattle.history.specs.Ledger.{writeJournal, journalWritten, commitLog, commitLocation, superblockWritten, freeze, receive, add, pushSync, land, nonsense}
 use Rattle.history.specs.Calls.Called.{nonsense-refused}
 use Rattle.history.specs.Calls.Can.{can-add, can-push, can-freeze, can-receive, can-write, can-wrap, can-written, can-log, can-location, can-land, can-answer-log, can-answer-location, no-location, no-log}
-use Rattle.history.specs.Example.Setting.{g, table2, table2-valid, small, large, one-block, two-blocks, small-few, small-fit, large-few, large-fit, none-pending, small-pending, large-pending, large-frozen, both-pending, counts, writing, one-id, one-write, two-ids, two-writes}
+use Rattle.history.specs.Example.Setting.{g, table2, table2-valid, small, large, one-block, two-blocks, small-none-blank, large-none-blank, small-few, small-fit, large-few, large-fit, none-pending, small-pending, large-pending, large-frozen, both-pending, counts, writing, one-id, one-write, two-ids, two-writes}
 use Rattle.history.specs.Example.Walk.{Step, onward, Refused}
 use Rattle.history.specs.Example.Morning.{d9}
 use Rattle.history.specs.Example.States.{sb1, sb2, j1, j2, j3, j4, few1, few2, few3, few4, few5, few6, few7, few8, few9, few10, s9, s10, p10, s11, s12, s13, s14, s15, s16, s17, s18, s19, s20, s21, s22, s23, s24, p24, s25, s26, s27, s28, s29}
@@ -26,7 +25,7 @@ use Rattle.history.specs.Example.States.{sb1, sb2, j1, j2, j3, j4, few1,
 -- sixteen long entries, frozen: they are written from what is frozen, though a short one stands in memory, and the mark goes after them
 pub d10 : Step s9 (add large) s10
 d10 =
-    onward (add large) (d9 .1) (λ q. can-add q large refl) (large-few, large-fit)
+    onward (add large) (d9 .1) (λ q. can-add q large refl large-none-blank) (large-few, large-fit)
     (counts (none-few 32) (none-few 16) large-pending) (writing (none-few 16))
 
 -- a sync request behind them
@@ -42,7 +41,7 @@ d11 =
 
 pub d12 : Step s11 (add small) s12
 d12 =
-    onward (add small) (d11 .1) (λ q. can-add q small refl) (small-few, small-fit)
+    onward (add small) (d11 .1) (λ q. can-add q small refl small-none-blank) (small-few, small-fit)
     (counts few2 (none-few 16) both-pending) (writing (none-few 16))
 
 pub d13 : Step s12 (writeJournal 1 none) s13
@@ -98,7 +97,7 @@ d20 =
 -- the long entries again: this write passes the ring's end
 pub d21 : Step s20 (add large) s21
 d21 =
-    onward (add large) (d20 .1) (λ q. can-add q large refl) (large-few, large-fit)
+    onward (add large) (d20 .1) (λ q. can-add q large refl large-none-blank) (large-few, large-fit)
     (counts few5 (none-few 16) large-pending) (writing (none-few 16))
 
 pub d22 : Step s21 (writeJournal 4 (some 5)) s22
@@ -143,7 +142,7 @@ d27 =
 -- a last write, into the one block that is free
 pub d28 : Step s27 (add small) s28
 d28 =
-    onward (add small) (d27 .1) (λ q. can-add q small refl) (small-few, small-fit)
+    onward (add small) (d27 .1) (λ q. can-add q small refl small-none-blank) (small-few, small-fit)
     (counts few9 (none-few 16) small-pending) (writing (none-few 16))
 
 pub d29 : Step s28 (writeJournal 7 none) s29

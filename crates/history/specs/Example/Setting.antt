@@ -1,14 +1,16 @@
 -- The setting of the example: a ring of four blocks and tables of up to 4,096 bytes; both slots at counter 0, start 0, len 0, and no block
 -- readable; two lots of entries, of one block and of two; and machine and disk of the day as functions of what changes.
 use Prim.Native.Nat.{ℕ, zero, suc, _+_, _≤_}
-use mathlib.Core.Bool.{Bool}
+use mathlib.Core.Bool.{Bool, true}
 use mathlib.Core.Path.{_≡_, refl, sym, _∙_, ap, subst}
 use mathlib.Core.List.{List, [], _∷_}
 use mathlib.Core.Option.{Option, none, some}
 use mathlib.Core.Logic.{inl, inr}
 use native.Mathlib.Omega.{arith}
 use lib.ListN.{length, replicate}
-use Rattle.laws.specs.Fold.{sum}
+use Rattle.laws.specs.Choice.{also}
+use Rattle.laws.specs.Fold.{sum, every}
+use Rattle.laws.specs.Bytes.{isZero}
 use Rattle.laws.specs.Cut.{lengths}
 use Rattle.laws.specs.Sets.{Ids, no-ids, join, Map, no-keys, bind, keys, AtMost, none-few, listed-few, idsOf, Two, both, none-some, at-both}
 use Rattle.laws.specs.Maps.{keys-one, keys-bind, one-few}
@@ -21,6 +23,7 @@ use Rattle.interval.specs.Journal.{JournalBlock}
 use Rattle.superblock.specs.declared.Superblock.{Superblock}
 use Rattle.superblock.specs.Superblock.{IncrementSuperblockCounter, increments1, SelectSuperblockIndex, SelectSuperblock}
 use Rattle.superblock.specs.Laws.{WFSuperblock}
+use Rattle.range.specs.Blank.{blank, noneBlank}
 use Rattle.codec.specs.Codec.{JournalEntry, Sized, EntriesFit}
 use Rattle.codec.specs.Format.{encodeBlocks, length-encodeBlocks}
 use Rattle.source.specs.JournalDisk as D
@@ -115,6 +118,15 @@ small-few = omega arith
 pub small-fit : EntriesFit 255 small
 unfolding small
 small-fit = (record { some-byte = omega arith; most-bytes = omega arith }, tt)
+
+-- and none is of zeros only
+pub small-none-blank : noneBlank small ≡ true
+unfolding small noneBlank blank isZero every also
+small-none-blank = refl
+
+pub large-none-blank : noneBlank large ≡ true
+unfolding large noneBlank blank isZero every also
+large-none-blank = refl
 
 pub large-few : length large ≤ 16
 unfolding large

@@ -121,7 +121,7 @@ module _ (g : Geometry) (C : Codec) (L : Limits) (p : ℕ) (s t : Y.Variables) (
   neat-tied x e tied-finish-other a = neat-finish-other g C L p (s .machine) (t .machine) (s .disk) (t .disk) l (l .kept) _ z (a .meets) n (a .step .machine) (a .step .disk)
   neat-tied x e tied-freeze a = neat-freeze g C (s .machine) (t .machine) (s .disk) (t .disk) (l .kept) _ n (a .step .machine) (a .step .disk)
   neat-tied x e (tied-receive {loc = loc}) a = neat-receive g C loc (s .machine) (t .machine) (s .disk) (t .disk) (l .kept) _ n (a .step .machine) (a .step .disk)
-  neat-tied x e (tied-add {es = es}) a = neat-add g C es (s .machine) (t .machine) (s .disk) (t .disk) (l .kept) _ n (a .step .machine) (a .step .disk)
+  neat-tied x e (tied-add {es = es}) a = neat-add g C es (s .machine) (t .machine) (s .disk) (t .disk) (l .kept) _ n (a .step .machine .source) (a .step .disk)
   neat-tied x e (tied-replay {es = es}) a = neat-replay g C es (s .machine) (t .machine) (s .disk) (t .disk) (l .kept) _ n (a .step .machine) (a .step .disk)
   neat-tied x e (tied-push {id = id}) a = neat-push g C id (s .machine) (t .machine) (s .disk) (t .disk) (l .kept) _ n (a .step .machine) (a .step .disk)
   neat-tied x e (tied-pop {id = id}) a = neat-pop g C id (s .machine) (t .machine) (s .disk) (t .disk) (l .kept) _ n (a .step .machine) (a .step .disk)

@@ -53,7 +53,7 @@ module _ (g : Geometry) (C : Codec) (L : Limits) (p : ℕ) (s t : Y.Variables) (
       sim-finish-other g C p (s .machine) (t .machine) (s .disk) (t .disk) l _ z (a .step .machine) (a .step .disk)
   tied-sim x e tied-freeze a = sim-freeze g C p (s .machine) (t .machine) (s .disk) (t .disk) l _ z (a .step .machine) (a .step .disk)
   tied-sim x e (tied-receive {loc = loc}) a = sim-receive g C p loc (s .machine) (t .machine) (s .disk) (t .disk) l _ z (a .step .machine) (a .step .disk)
-  tied-sim x e (tied-add {es = es}) a = sim-add g C p es (s .machine) (t .machine) (s .disk) (t .disk) l _ z (a .step .machine) (a .step .disk)
+  tied-sim x e (tied-add {es = es}) a = sim-add g C p es (s .machine) (t .machine) (s .disk) (t .disk) l _ z (a .step .machine .source) (a .step .disk)
   tied-sim x e (tied-replay {es = es}) a = sim-replay g C p es (s .machine) (t .machine) (s .disk) (t .disk) l _ z (a .step .machine) (a .step .disk)
   tied-sim x e (tied-push {id = id}) a = sim-push g C p id (s .machine) (t .machine) (s .disk) (t .disk) l _ z (a .step .machine) (a .step .disk)
   tied-sim x e (tied-pop {id = id}) a = sim-pop g C p id (s .machine) (t .machine) (s .disk) (t .disk) l _ z (a .step .machine) (a .step .disk)

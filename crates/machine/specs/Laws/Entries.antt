@@ -1,23 +1,21 @@
 -- Advance and Replay: what was counted tells the number and the answer; what is taken then is a 64-bit number. The code's proofs cite them.
 use Prim.Native.Nat.{ℕ, _+_, _≤_}
-use mathlib.Core.Bool.{Bool, true, false, cond}
+use mathlib.Core.Bool.{Bool, true, false}
 use mathlib.Core.Path.{_≡_, refl, sym, _∙_, ap}
 use mathlib.Core.List.{List}
 use native.Mathlib.Omega.{arith}
 use lib.ListN.{length, take, drop, length-drop}
 use lib.Seq.{length-take-le, take-all}
 use borrow.Author.Tests.{leb-true}
-use Rattle.laws.specs.Choice.{andThen, andThen-left, andThen-right, andThen-first, andThen-done, unless, also-left, also-right, ask, ask-fails, ask-holds, split-le}
+use Rattle.laws.specs.Choice.{andThen, andThen-left, andThen-right, andThen-first, andThen-done, also-left, also-right, ask, ask-fails, ask-holds, split-le}
 use Rattle.laws.specs.Fold.{same-is}
-use Rattle.laws.specs.Splice.{clipped}
-use Rattle.superblock.specs.declared.DiskOp.{DiskOp}
 use Rattle.superblock.specs.declared.DiskOp.the-variants as op
 use Rattle.memory.specs.declared.Count.{Count}
 use Rattle.memory.specs.declared.Limits.{Limits}
 use Rattle.memory.specs.declared.Counted.{Counted}
 use Rattle.memory.specs.declared.Counted.the-variants as answer
 use Rattle.memory.specs.Answer.{counted, refusal, counted-now, counted-refused, counted-done, counted-no, refusal-counted}
-use Rattle.memory.specs.Given.{memory, countOf, askGiven, given-asked}
+use Rattle.memory.specs.Given.{memory, countOf, askGiven, askAdded, given-asked}
 use Rattle.memory.specs.Replay.{isNext}
 use Rattle.ready.specs.declared.Bodies.{Bodies}
 use Rattle.ready.specs.declared.Entries.{Entries}
@@ -53,8 +51,8 @@ pub advance-given : (m : Machine) (b : Bodies) (brought sizes : List ℕ) (k : �
     → countIn (givenOf brought sizes k) ≡ countOf (memory brought sizes k)
 unfolding askAdvanceStep
 advance-given m b brought sizes k h =
-    count-given-in (askGiven (memory brought sizes k)) (countOf (memory brought sizes k))
-    (sym (refusal-counted (askGiven (memory brought sizes k)) (countOf (memory brought sizes k)))
+    count-given-in (askAdded (memory brought sizes k)) (countOf (memory brought sizes k))
+    (sym (refusal-counted (askAdded (memory brought sizes k)) (countOf (memory brought sizes k)))
     ∙ andThen-left (refusal (givenOf brought sizes k)) _ (andThen-right _ _ h))
 
 -- as many elements as were taken are there

@@ -1,19 +1,14 @@
 -- Advance: the entries that the caller brings join pending memory. They are there, so that the call is no nonsense.
 use Prim.Native.Nat.{ℕ}
-use mathlib.Core.Bool.{Bool, cond}
-use mathlib.Core.Path.{_≡_, refl, sym, _∙_, ap, subst}
-use mathlib.Core.List.{List}
-use lib.Dec.{leb}
-use lib.ListN.{length}
-use borrow.Author.Tests.{le-leb}
-use Rattle.laws.specs.Choice.{also-both, andThen, andThen-left, andThen-right, unless-done}
+use mathlib.Core.Path.{_≡_, refl, sym, _∙_, subst}
+use Rattle.laws.specs.Choice.{andThen, andThen-left, andThen-right, unless-done}
 use Rattle.layout.specs.declared.Geometry.{Geometry}
 use Rattle.superblock.specs.declared.DiskOp.{DiskOp}
 use Rattle.superblock.specs.declared.DiskOp.the-variants as op
-use Rattle.range.specs.Memory.{view, total}
+use Rattle.range.specs.Memory.{view}
 use Rattle.codec.specs.Format.{format}
 use Rattle.memory.specs.Answer.{refusal-counted}
-use Rattle.memory.specs.Given.{memory, countOf, askGiven}
+use Rattle.memory.specs.Given.{memory, countOf, askAdded}
 use Rattle.ready.specs.declared.Bodies.{Bodies}
 use Rattle.source.specs.JournalDisk as D
 use Rattle.source.specs.JournalCache.{AdvanceStep}
@@ -32,8 +27,8 @@ use Rattle.store.specs.Steps.{askBoth, both, add, addedLent}
 use Rattle.calls.specs.declared.calls.Step.the-variants as step
 use Rattle.calls.specs.Given.{Given}
 use Rattle.refine.specs.Machine.ReadyForm as form
-use Rattle.refine.specs.Machine.MachineEntries.{asked-entries, advance-clauses}
-use Rattle.refine.specs.Store.Seen.{seen, SizedStore, store-met, callOf, entriesCall}
+use Rattle.refine.specs.Machine.MachineEntries.{asked-entries, added-given, advance-clauses}
+use Rattle.refine.specs.Store.Seen.{seen, SizedStore, store-met, callOf}
 use Rattle.refine.specs.Store.Plain.{entries-is}
 use Rattle.refine.specs.Store.Taken.{answered-takes, machine-takes}
 
@@ -57,7 +52,7 @@ module _ (g : Geometry) (l : Lent) (v : Given) (s : Store) (k : ℕ) where
   unfolding askAdvanceStep
   given-there e =
       asked-entries (v .brought) (v .sizes) k
-      (sym (refusal-counted (askGiven (memory (v .brought) (v .sizes) k)) (countOf (memory (v .brought) (v .sizes) k))) ∙ andThen-left _ _ (andThen-right _ _ e))
+      (added-given (v .brought) (v .sizes) k (sym (refusal-counted (askAdded (memory (v .brought) (v .sizes) k)) (countOf (memory (v .brought) (v .sizes) k))) ∙ andThen-left _ _ (andThen-right _ _ e)))
 
   add-tied : q ≡ 0 → Tied (callOf v (step.Advance k)) (MachineStep D.NoDiskOp (Source (AdvanceStep (view (v .brought) (v .sizes) k))))
   add-tied e =

@@ -109,7 +109,7 @@ module _ (g : Geometry) (C : Codec) (s′ : Variables) (dop : DiskOp) where
   ready-taken s (Source FinishLoadingOtherPhaseStep) a h = absurd (h .source)
   ready-taken s (Source FreezeStep) a h = no-answer dop NoDiskOp (h .op) (λ x. x) a
   ready-taken s (Source (ReceiveFrozenLocStep loc)) a h = no-answer dop NoDiskOp (h .op) (λ x. x) a
-  ready-taken s (Source (AdvanceStep new-je)) a h = no-answer dop NoDiskOp (h .op) (λ x. x) a
+  ready-taken s (Source (AdvanceStep new-je)) a h = no-answer dop NoDiskOp (h .source .op) (λ x. x) a
   ready-taken s (Source (ReplayStep replayed-je)) a h = go s′ h
     where
       go : {G : Type 0} (t : Variables) → isReady t (λ t. M.ReplayClauses s t dop replayed-je) → G
@@ -142,7 +142,7 @@ module _ (g : Geometry) (C : Codec) (s′ : Variables) (dop : DiskOp) where
       go (LoadingSuperblock t) k = absurd k
   other-taken s (Source FreezeStep) a h = absurd h
   other-taken s (Source (ReceiveFrozenLocStep loc)) a h = absurd h
-  other-taken s (Source (AdvanceStep new-je)) a h = absurd h
+  other-taken s (Source (AdvanceStep new-je)) a h = absurd (h .source)
   other-taken s (Source (ReplayStep replayed-je)) a h = absurd h
   other-taken s (Source (PushSyncReqStep id)) a h = no-answer dop NoDiskOp (h .op) (λ x. x) a
   other-taken s (Source (PopSyncReqStep id)) a h = no-answer dop NoDiskOp (h .op) (λ x. x) a
@@ -165,7 +165,7 @@ module _ (g : Geometry) (C : Codec) (s′ : Variables) (dop : DiskOp) where
   superblock-taken s (Source FinishLoadingOtherPhaseStep) a h = absurd (h .source)
   superblock-taken s (Source FreezeStep) a h = absurd h
   superblock-taken s (Source (ReceiveFrozenLocStep loc)) a h = absurd h
-  superblock-taken s (Source (AdvanceStep new-je)) a h = absurd h
+  superblock-taken s (Source (AdvanceStep new-je)) a h = absurd (h .source)
   superblock-taken s (Source (ReplayStep replayed-je)) a h = absurd h
   superblock-taken s (Source (PushSyncReqStep id)) a h = no-answer dop NoDiskOp (h .op) (λ x. x) a
   superblock-taken s (Source (PopSyncReqStep id)) a h = no-answer dop NoDiskOp (h .op) (λ x. x) a

@@ -10,7 +10,9 @@ use mathlib.Core.HLevel.{Discrete}
 use mathlib.Core.Logic.{_⊎_, inl, inr, ⊎-elim}
 use native.Mathlib.Decide.{ℕ-discrete}
 use Rattle.layout.specs.declared.Geometry.{Geometry}
+use Rattle.laws.specs.Choice.{split-bool, true-false}
 use Rattle.laws.specs.Sets.{keys, AtMost, Two, at}
+use Rattle.range.specs.Blank.{noneBlank, SomeBlank, some-blank, blank-some}
 use Rattle.codec.specs.Codec.{JournalEntry, JournalRange, Codec}
 use Rattle.source.specs.JournalDisk as D
 use Rattle.source.specs.JournalDisk.{ReqId, DiskOp, ReqReadSuperblockOp, ReqReadJournalOp, ReqWriteSuperblockOp, ReqWriteJournalOp, RespReadSuperblockOp, RespReadJournalOp, RespWriteSuperblockOp, RespWriteJournalOp, NoDiskOp}
@@ -20,7 +22,7 @@ use Rattle.source.specs.JournalCache.{Step, WriteBackJournalReqStep, Wri
 use Rattle.source.specs.JournalSystem as Y
 use Rattle.source.specs.Limits.{Limits}
 use Rattle.source.specs.Meets.{SystemMeets}
-use Rattle.source.specs.Departures.{OneRange, WriteBackJournalReq⁺, OtherRange, FinishLoadingOtherPhase⁺, OtherPosition, Awaited, NoOp⁺, OtherSlotWaits, PageInSuperblockReq⁺, idleSync, CommitReq⁺, WaitsIdle, Source, DamagedJournalStep, AskAgainStep, SourceStep⁺, TakenAway, DiskCrash⁺, Event, MachineStep, DiskInternalStep, CrashStep, Allowed, SystemTakenAway}
+use Rattle.source.specs.Departures.{OneRange, WriteBackJournalReq⁺, OtherRange, FinishLoadingOtherPhase⁺, OtherPosition, Awaited, NoOp⁺, OtherSlotWaits, PageInSuperblockReq⁺, idleSync, CommitReq⁺, WaitsIdle, Advance⁺, Source, DamagedJournalStep, AskAgainStep, SourceStep⁺, TakenAway, DiskCrash⁺, Event, MachineStep, DiskInternalStep, CrashStep, Allowed, SystemTakenAway}
 use Rattle.source.specs.Laws.Cases.{by-ready}
 use Rattle.source.specs.Laws.Idle.{sync-with, sync-counted, waits-moved, commit-departs, commit-source}
 
@@ -102,6 +104,9 @@ awaited? s (ReqWriteSuperblockOp id which req) = no (λ x. x)
 awaited? s (ReqWriteJournalOp id1 id2 req) = no (λ x. x)
 awaited? s NoDiskOp = no (λ x. x)
 
+pub advance-departs : (s s′ : Variables) (dop : DiskOp) (es : List JournalEntry) → M.Advance s s′ dop es → Advance⁺ s s′ dop es ⊎ SomeBlank es
+advance-departs s s′ dop es h = split-bool (noneBlank es) (λ e. inl (record { source = h; none-blank = e })) (λ e. inr (some-blank es e))
+
 pub noOp-departs : (s s′ : Variables) (dop : DiskOp) → NoOp s s′ dop → NoOp⁺ s s′ dop ⊎ Awaited s dop
 noOp-departs s s′ dop h = go (awaited? s dop)
   where
@@ -157,7 +162,7 @@ source-next g C s s′ dop FinishLoadingSuperblockPhaseStep h = inl (FinishLoadi
 source-next g C s s′ dop FinishLoadingOtherPhaseStep h = inl (FinishLoadingOtherPhaseStep, h .source)
 source-next g C s s′ dop FreezeStep h = inl (FreezeStep, h)
 source-next g C s s′ dop (ReceiveFrozenLocStep loc) h = inl (ReceiveFrozenLocStep loc, h)
-source-next g C s s′ dop (AdvanceStep new-je) h = inl (AdvanceStep new-je, h)
+source-next g C s s′ dop (AdvanceStep new-je) h = inl (AdvanceStep new-je, h .source)
 source-next g C s s′ dop (ReplayStep replayed-je) h = inl (ReplayStep replayed-je, h)
 source-next g C s s′ dop (PushSyncReqStep id) h = inl (PushSyncReqStep id, h)
 source-next g C s s′ dop (PopSyncReqStep id) h = inl (PopSyncReqStep id, h)
@@ -180,7 +185,7 @@ next-step-departs g C s s′ dop FinishLoadingSuperblockPhaseStep n f h = inl h
 next-step-departs g C s s′ dop FinishLoadingOtherPhaseStep n f h = finishLoadingOtherPhase-departs g C s s′ dop h
 next-step-departs g C s s′ dop FreezeStep n f h = inl h
 next-step-departs g C s s′ dop (ReceiveFrozenLocStep loc) n f h = inl h
-next-step-departs g C s s′ dop (AdvanceStep new-je) n f h = inl h
+next-step-departs g C s s′ dop (AdvanceStep new-je) n f h = advance-departs s s′ dop new-je h
 next-step-departs g C s s′ dop (ReplayStep replayed-je) n f h = inl h
 next-step-departs g C s s′ dop (PushSyncReqStep id) n f h = inl h
 next-step-departs g C s s′ dop (PopSyncReqStep id) n f h = inl h
@@ -205,7 +210,7 @@ taken-apart g C s (LoadingOther s′) dop FinishLoadingOtherPhaseStep h t = t
 taken-apart g C s (LoadingSuperblock s′) dop FinishLoadingOtherPhaseStep h t = t
 taken-apart g C s s′ dop FreezeStep h t = t
 taken-apart g C s s′ dop (ReceiveFrozenLocStep loc) h t = t
-taken-apart g C s s′ dop (AdvanceStep new-je) h t = t
+taken-apart g C s s′ dop (AdvanceStep new-je) h t = true-false (sym (h .none-blank) ∙ blank-some new-je t)
 taken-apart g C s s′ dop (ReplayStep replayed-je) h t = t
 taken-apart g C s s′ dop (PushSyncReqStep id) h t = t
 taken-apart g C s s′ dop (PopSyncReqStep id) h t = t

@@ -83,7 +83,7 @@ module _ (g : Geometry) (C : Codec) (s s′ : M.Variables) (dop : DiskOp) where
       (λ r k. by-ready blocks s′ (λ t. M.FinishLoadingOtherPhaseClauses g C r t dop) (λ t c. by-op NoDiskOp (c .op) tt) k) (h .source)
   step-blocks (Source FreezeStep) h = by-ready blocks s (λ r. M.FreezeClauses r s′ dop) (λ r k. by-op NoDiskOp (k .op) tt) h
   step-blocks (Source (ReceiveFrozenLocStep loc)) h = by-ready blocks s (λ r. M.ReceiveFrozenLocClauses g r s′ dop loc) (λ r k. by-op NoDiskOp (k .op) tt) h
-  step-blocks (Source (AdvanceStep es)) h = by-ready blocks s (λ r. M.AdvanceClauses r s′ dop es) (λ r k. by-op NoDiskOp (k .op) tt) h
+  step-blocks (Source (AdvanceStep es)) h = by-ready blocks s (λ r. M.AdvanceClauses r s′ dop es) (λ r k. by-op NoDiskOp (k .op) tt) (h .source)
   step-blocks (Source (ReplayStep es)) h =
       by-ready blocks s (λ r. isReady s′ (λ t. M.ReplayClauses r t dop es)) (λ r k. by-ready blocks s′ (λ t. M.ReplayClauses r t dop es) (λ t c. by-op NoDiskOp (c .op) tt) k) h
   step-blocks (Source (PushSyncReqStep id)) h = by-op NoDiskOp (h .op) tt

@@ -75,7 +75,7 @@ module _ (g : Geometry) (L : Limits) where
   superblock-shape C s s′ dop (Source FinishLoadingOtherPhaseStep) h k = absurd (k .source)
   superblock-shape C s s′ dop (Source FreezeStep) h k = absurd k
   superblock-shape C s s′ dop (Source (ReceiveFrozenLocStep loc)) h k = absurd k
-  superblock-shape C s s′ dop (Source (AdvanceStep es)) h k = absurd k
+  superblock-shape C s s′ dop (Source (AdvanceStep es)) h k = absurd (k .source)
   superblock-shape C s s′ dop (Source (ReplayStep es)) h k = absurd k
   superblock-shape C s s′ dop (Source (PushSyncReqStep id)) h k = by-shape g L (k .next) (record { reads-differ = h .reads-differ })
   superblock-shape C s s′ dop (Source (PopSyncReqStep id)) h k = by-shape g L (k .next) (record { reads-differ = h .reads-differ })
@@ -192,7 +192,7 @@ module _ (g : Geometry) (L : Limits) where
   other-shape C fits s s′ dop (Source FinishLoadingOtherPhaseStep) inv h a k = finished-shape s h inv C fits s′ dop (k .source)
   other-shape C fits s s′ dop (Source FreezeStep) inv h a k = absurd k
   other-shape C fits s s′ dop (Source (ReceiveFrozenLocStep loc)) inv h a k = absurd k
-  other-shape C fits s s′ dop (Source (AdvanceStep es)) inv h a k = absurd k
+  other-shape C fits s s′ dop (Source (AdvanceStep es)) inv h a k = absurd (k .source)
   other-shape C fits s s′ dop (Source (ReplayStep es)) inv h a k = absurd k
   other-shape C fits s s′ dop (Source (PushSyncReqStep id)) inv h a k =
       by-shape g L (k .next) (record { reads-differ = h .reads-differ; read-or-in = h .read-or-in; piece-size = h .piece-size })

@@ -74,7 +74,7 @@ module _ (g : Geometry) (L : Limits) where
       })
   ready-shape C s s′ dop (Source (ReceiveFrozenLocStep loc)) inv h a k = by-shape (k .next) (record { frozen-fit = h .frozen-fit; memory-fit = h .memory-fit; replay = h .replay })
   ready-shape C s s′ dop (Source (AdvanceStep es)) inv h a k =
-      by-shape (k .next)
+      by-shape (k .source .next)
       (record {
         frozen-fit = h .frozen-fit;
         memory-fit = each-append (EntryFits (L .entryBytes)) (s .inMemoryJournal) es (h .memory-fit) (a .fit);

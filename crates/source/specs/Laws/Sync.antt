@@ -81,7 +81,7 @@ module _ (g : Geometry) (C : Codec) (s s′ : Variables) (dop : DiskOp) where
       by-other (leads (Source FinishLoadingOtherPhaseStep)) s (λ r. isReady s′ (λ t. M.FinishLoadingOtherPhaseClauses g C r t dop))
       (λ r k. by-ready (λ t. syncReqsOf t ≡ r .syncReqs) s′ (λ t. M.FinishLoadingOtherPhaseClauses g C r t dop) (λ t c. c .syncReqs-is) k) (h .source)
   step-sync (Source (ReceiveFrozenLocStep loc)) inv h = by-ready (leads (Source (ReceiveFrozenLocStep loc))) s (λ r. M.ReceiveFrozenLocClauses g r s′ dop loc) (λ r k. ap syncReqsOf (k .next)) h
-  step-sync (Source (AdvanceStep new-je)) inv h = by-ready (leads (Source (AdvanceStep new-je))) s (λ r. M.AdvanceClauses r s′ dop new-je) (λ r k. ap syncReqsOf (k .next)) h
+  step-sync (Source (AdvanceStep new-je)) inv h = by-ready (leads (Source (AdvanceStep new-je))) s (λ r. M.AdvanceClauses r s′ dop new-je) (λ r k. ap syncReqsOf (k .next)) (h .source)
   step-sync (Source (ReplayStep replayed-je)) inv h =
       by-ready (leads (Source (ReplayStep replayed-je))) s (λ r. isReady s′ (λ t. M.ReplayClauses r t dop replayed-je))
       (λ r k. by-ready (λ t. syncReqsOf t ≡ r .syncReqs) s′ (λ t. M.ReplayClauses r t dop replayed-je) (λ t c. ap (λ (x : M.ReadyVariables). x .syncReqs) (c .next)) k) h

@@ -290,7 +290,7 @@ module _ (g : Geometry) (C : Codec) (L : Limits) (s s′ s″ : Variables) (dop 
   source-step-one FinishLoadingOtherPhaseStep m h k = finishLoadingOtherPhase-one g C s s′ s″ dop h k
   source-step-one FreezeStep m h k = freeze-one g C s s′ s″ dop h k
   source-step-one (ReceiveFrozenLocStep loc) m h k = receiveFrozenLoc-one g C s s′ s″ dop loc h k
-  source-step-one (AdvanceStep new-je) m h k = advance-one g C s s′ s″ dop new-je h k
+  source-step-one (AdvanceStep new-je) m h k = advance-one g C s s′ s″ dop new-je (h .source) (k .source)
   source-step-one (ReplayStep replayed-je) m h k = replay-one s s′ s″ dop replayed-je h k
   source-step-one (PushSyncReqStep id) m h k = h .next ∙ sym (k .next)
   source-step-one (PopSyncReqStep id) m h k = h .next ∙ sym (k .next)
