@@ -4,7 +4,7 @@
 -- its own ledger.
 use mathlib.Core.Bool.{Bool}
 use mathlib.Core.Path.{_≡_}
-use mathlib.Core.List.{List, map}
+use mathlib.Core.List.{List, _++_, map}
 use Rattle.layout.specs.declared.Geometry.{Geometry}
 use Rattle.layout.specs.declared.Location.{Location}
 use Rattle.codec.specs.Format.{format}
@@ -15,7 +15,9 @@ use Rattle.history.specs.Ledger.{Call, shown}
 use Rattle.history.specs.Statement.{Loaded, ledgerOf, Tells, readyBy, slotBy, Store, LoadedStore}
 use Rattle.history.specs.Whole.History
 use Rattle.history.specs.Whole.History.{whole-history}
+use Rattle.history.specs.Earlier.{TraceEver}
 use Rattle.history.specs.Whole.Stores.{stores-tell}
+use Rattle.history.specs.Whole.Ever.{ever-tells, store-ever-tells}
 
 pub demand-3 : (g : Geometry) (first : Y.Variables) (loc : Location) (i : Y.Init g first loc)
     (calls : List Call) (answers : List Bool) (loading : List Call) (loaded : List Bool) (r : M.ReadyVariables)
@@ -45,3 +47,21 @@ pub two-stores : (g : Geometry) (S S′ : Store g format limits) (first : Y.Vari
     (shown format (ledgerOf g format first loc i (map (S .call) calls) answers (map (S .call) loading) loaded))
     (shown format (ledgerOf g format first loc i (map (S′ .call) calls′) answers′ (map (S′ .call) loading′) loaded′))
 two-stores g = stores-tell g format limits
+
+-- A disk from before: the calls up to `middle` were taken by this release or by earlier ones (Earlier), among them adds of entries of zeros only. What is
+-- loaded from then on shows the ledger of the whole history, such entries included: they are written, loaded and replayed as they are.
+module _ (g : Geometry) (first : Y.Variables) (loc : Location) (i : Y.Init g first loc) (middle : Y.Variables) (before : List Call) (answered : List Bool)
+    (ever : TraceEver g format limits first before answered middle) where
+  pub earlier-tells : (calls : List Call) (answers : List Bool) (loading : List Call) (loaded : List Bool) (r : M.ReadyVariables)
+      → Loaded g format limits middle calls answers loading loaded r
+      → let v = shown format (ledgerOf g format first loc i (before ++ calls) (answered ++ answers) loading loaded) in
+      r ≡ readyBy v (slotBy g first loc i (v .counter))
+  earlier-tells = ever-tells g format limits first loc i middle before answered ever
+
+  -- of any store whose first state is seen as `middle`
+  pub store-earlier-tells : (S : Store g format limits)
+      (s : S .State) (calls : List (S .Made)) (answers : List Bool) (crashing : S .Made) (loading : List (S .Made)) (loaded : List Bool) (r : M.ReadyVariables)
+      → LoadedStore S middle s calls answers crashing loading loaded r
+      → let v = shown format (ledgerOf g format first loc i (before ++ map (S .call) calls) (answered ++ answers) (map (S .call) loading) loaded) in
+      r ≡ readyBy v (slotBy g first loc i (v .counter))
+  store-earlier-tells = store-ever-tells g format limits first loc i middle before answered ever

@@ -2,6 +2,7 @@ pub mod Ledger
 pub mod Statement
 pub mod Coverage
 pub mod Before
+pub mod Earlier
 pub mod Demand
 pub mod Sync
 pub mod Calls

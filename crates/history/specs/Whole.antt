@@ -3,3 +3,4 @@ pub mod Lists
 pub mod First
 pub mod History
 pub mod Stores
+pub mod Ever

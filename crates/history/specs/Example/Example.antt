@@ -182,7 +182,7 @@ unfolding books tell
 example-shows =
     demand-3 g first table1 init day answers evening (taken evening) (example-loads .0) day answers evening (taken evening) (example-loads .0) (example-loads .1) (example-loads .1) .first-shows
     ∙ ap (shown format)
-    (books-append g format limits (begin (SuperblockOfDisk g (first .disk) (init .wf))) first s29 day answers (crash ∷ evening) (true ∷ taken evening) (walked walk)
+    (books-append g format (begin (SuperblockOfDisk g (first .disk) (init .wf))) _ first s29 day answers (crash ∷ evening) (true ∷ taken evening) (walked walk)
     ∙ books-loads g format limits (fresh (kept (SuperblockOfDisk g (first .disk) (init .wf)))) evening (taken evening) (example-loads .1 .only-loads))
     ∙ ap (λ (v : Superblock). shown format (fresh (kept v))) init-super
     ∙ told-is

@@ -32,7 +32,9 @@ use Rattle.history.specs.Simulation.Relation.{superOf, Pieces, Sim}
 use Rattle.history.specs.Statement.{Tied, tied-finish-superblocks, tied-finish-other, tied-crash, Takes, loads, readyBy, Trace, Loaded}
 use Rattle.history.specs.Simulation.Steps.{sim-step}
 use Rattle.history.specs.Whole.Reloaded.{loaded-whole}
+use Rattle.history.specs.Earlier.{TraceEver}
 use Rattle.history.specs.Whole.Lists.{sim-run}
+use Rattle.history.specs.Whole.Ever.{ever-sim}
 use Rattle.history.specs.Whole.First.{firstParity, init-sim}
 use Rattle.history.specs.Loads.Comes.{slotCalls, pieceCalls, loadCalls, taken, Comes, here, by, comes-then, comes-trace, comes-loads}
 use Rattle.history.specs.Loads.Superblocks.{resting, Room, disk-meets, joined, Read, read-put, superblocksAt, machine-superblocks, slot-read}
@@ -253,13 +255,13 @@ crash-rests g C L s t e tied-crash a =
           };
     }
 
--- so every history that ends with a crash that is taken can be loaded, from the very state before it
-pub crash-loads-from : (g : Geometry) (C : Codec) (L : Limits) → Room L → (first : Y.Variables) (loc : Location) (i : Y.Init g first loc) (calls : List Call) (answers : List Bool) (before after : Y.Variables)
-    → Trace g C L first calls answers before → Takes g C L before after crash → Sized (after .disk .journal)
-    → let v = superOf C (books g C (begin (SuperblockOfDisk g (first .disk) (i .wf))) calls answers .kept) in
-    (r : M.ReadyVariables) × (h : Loaded g C L first calls answers (loadCalls g v) (taken (loadCalls g v)) r) × (h .before ≡ before)
+-- so whatever stands as its ledger says can be loaded after any calls and a crash that is taken, from the very state before it
+pub loads-from : (g : Geometry) (C : Codec) (L : Limits) → Room L → (p : ℕ) (from : Y.Variables) (l₀ : Ledger) → Sim g C p (from .machine) (from .disk) l₀
+    → (calls : List Call) (answers : List Bool) (before after : Y.Variables) → Trace g C L from calls answers before → Takes g C L before after crash → Sized (after .disk .journal)
+    → let v = superOf C (books g C l₀ calls answers .kept) in
+    (r : M.ReadyVariables) × (h : Loaded g C L from calls answers (loadCalls g v) (taken (loadCalls g v)) r) × (h .before ≡ before)
 unfolding tell
-crash-loads-from g C L room first loc i calls answers before after ran crashed sized = (
+loads-from g C L room p from l₀ z₀ calls answers before after ran crashed sized = (
   readyBy (shown C l) (z .slot),
   record {
     before = before;
@@ -274,11 +276,8 @@ crash-loads-from g C L room first loc i calls answers before after ran crashed s
   refl,
 )
   where
-    p : ℕ
-    p = firstParity g C first loc i
-
     l₁ : Ledger
-    l₁ = books g C (begin (SuperblockOfDisk g (first .disk) (i .wf))) calls answers
+    l₁ = books g C l₀ calls answers
 
     l : Ledger
     l = tell g C crash l₁
@@ -301,7 +300,7 @@ crash-loads-from g C L room first loc i calls answers before after ran crashed s
     z : Sim g C p (M.Variables.LoadingSuperblock M.initial) (resting slots j) l
     z =
         subst (λ (s : Y.Variables). Sim g C p (s .machine) (s .disk) l) rests
-        (sim-step g C L p before after l₁ (sim-run g C L p first before (begin (SuperblockOfDisk g (first .disk) (i .wf))) calls answers (init-sim g C first loc i) ran) crash crashed)
+        (sim-step g C L p before after l₁ (sim-run g C L p from before l₀ calls answers z₀ ran) crash crashed)
 
     ready : Y.Variables
     ready = record { machine = M.Variables.Ready (readyBy (shown C l) (z .slot)); disk = resting slots j }
@@ -309,9 +308,27 @@ crash-loads-from g C L room first loc i calls answers before after ran crashed s
     up : Comes g C L rest xs ready
     up = comes-up g C L room p slots j l z sized
 
+-- every history that ends with a crash that is taken
+pub crash-loads-from : (g : Geometry) (C : Codec) (L : Limits) → Room L → (first : Y.Variables) (loc : Location) (i : Y.Init g first loc) (calls : List Call) (answers : List Bool) (before after : Y.Variables)
+    → Trace g C L first calls answers before → Takes g C L before after crash → Sized (after .disk .journal)
+    → let v = superOf C (books g C (begin (SuperblockOfDisk g (first .disk) (i .wf))) calls answers .kept) in
+    (r : M.ReadyVariables) × (h : Loaded g C L first calls answers (loadCalls g v) (taken (loadCalls g v)) r) × (h .before ≡ before)
+crash-loads-from g C L room first loc i = loads-from g C L room (firstParity g C first loc i) first (begin (SuperblockOfDisk g (first .disk) (i .wf))) (init-sim g C first loc i)
+
 pub crash-loads : (g : Geometry) (C : Codec) (L : Limits) → Room L → (first : Y.Variables) (loc : Location) (i : Y.Init g first loc) (calls : List Call) (answers : List Bool) (before after : Y.Variables)
     → Trace g C L first calls answers before → Takes g C L before after crash → Sized (after .disk .journal)
     → let v = superOf C (books g C (begin (SuperblockOfDisk g (first .disk) (i .wf))) calls answers .kept) in
     (r : M.ReadyVariables) × Loaded g C L first calls answers (loadCalls g v) (taken (loadCalls g v)) r
 crash-loads g C L room first loc i calls answers before after ran crashed sized =
     let k = crash-loads-from g C L room first loc i calls answers before after ran crashed sized in (k .0, k .1)
+
+-- the same behind calls of earlier releases
+pub earlier-loads : (g : Geometry) (C : Codec) (L : Limits) → Room L → (first : Y.Variables) (loc : Location) (i : Y.Init g first loc)
+    (middle : Y.Variables) (earlier : List Call) (answered : List Bool) → TraceEver g C L first earlier answered middle
+    → (calls : List Call) (answers : List Bool) (before after : Y.Variables) → Trace g C L middle calls answers before → Takes g C L before after crash → Sized (after .disk .journal)
+    → let v = superOf C (books g C (books g C (begin (SuperblockOfDisk g (first .disk) (i .wf))) earlier answered) calls answers .kept) in
+    (r : M.ReadyVariables) × Loaded g C L middle calls answers (loadCalls g v) (taken (loadCalls g v)) r
+earlier-loads g C L room first loc i middle earlier answered ever calls answers before after ran crashed sized =
+    let k = loads-from g C L room (firstParity g C first loc i) middle (books g C (begin (SuperblockOfDisk g (first .disk) (i .wf))) earlier answered)
+    (ever-sim g C L first loc i middle earlier answered ever) calls answers before after ran crashed sized in
+    (k .0, k .1)

@@ -5,27 +5,31 @@ use mathlib.Core.Path.{_≡_, refl, sym, _∙_, ap, subst}
 use mathlib.Core.List.{List, [], _∷_, _++_}
 use Rattle.layout.specs.declared.Geometry.{Geometry}
 use Rattle.codec.specs.Codec.{Codec}
-use Rattle.source.specs.JournalCache as M
 use Rattle.source.specs.JournalSystem as Y
 use Rattle.source.specs.Limits.{Limits}
-use Rattle.history.specs.Ledger.{Call, Ledger, heard, books, shown}
-use Rattle.history.specs.Statement.{Takes, Goes, Trace, loads, OnlyLoads}
+use Rattle.history.specs.Ledger.{Call, Ledger, tell, heard, books, shown}
+use Rattle.history.specs.Statement.{Takes, Goes, Runs, Trace, loads, OnlyLoads}
 use Rattle.history.specs.Simulation.Relation.{Sim}
 use Rattle.history.specs.Simulation.Steps.{sim-step}
 use Rattle.history.specs.Whole.Reloaded.{Clean, clean-step, loads-tell}
 
-module _ (g : Geometry) (C : Codec) (L : Limits) where
-  -- the relation through a list
-  sim-goes : (p : ℕ) (s t : Y.Variables) (l : Ledger) (x : Call) (b : Bool) → Sim g C p (s .machine) (s .disk) l → Goes (Takes g C L) s x b t → Sim g C p (t .machine) (t .disk) (heard g C b x l)
-  sim-goes p s t l x true z h = sim-step g C L p s t l z x h
-  sim-goes p s t l x false z h = subst (λ (u : Y.Variables). Sim g C p (u .machine) (u .disk) l) (sym h) z
+-- the relation through a list, whatever takes its calls, where a call that is taken keeps it
+module _ (g : Geometry) (C : Codec) (p : ℕ) (takes : Y.Variables → Y.Variables → Call → Type 0)
+    (keeps : (s t : Y.Variables) (l : Ledger) → Sim g C p (s .machine) (s .disk) l → (x : Call) → takes s t x → Sim g C p (t .machine) (t .disk) (tell g C x l)) where
+  kept-by : (s t : Y.Variables) (l : Ledger) (x : Call) (b : Bool) → Sim g C p (s .machine) (s .disk) l → Goes takes s x b t → Sim g C p (t .machine) (t .disk) (heard g C b x l)
+  kept-by s t l x true z h = keeps s t l z x h
+  kept-by s t l x false z h = subst (λ (u : Y.Variables). Sim g C p (u .machine) (u .disk) l) (sym h) z
 
-  pub sim-run : (p : ℕ) (s t : Y.Variables) (l : Ledger) (xs : List Call) (bs : List Bool) → Sim g C p (s .machine) (s .disk) l → Trace g C L s xs bs t → Sim g C p (t .machine) (t .disk) (books g C l xs bs)
+  pub run-by : (s t : Y.Variables) (l : Ledger) (xs : List Call) (bs : List Bool) → Sim g C p (s .machine) (s .disk) l → Runs (Goes takes) s xs bs t → Sim g C p (t .machine) (t .disk) (books g C l xs bs)
   unfolding books
-  sim-run p s t l [] [] z h = subst (λ (u : Y.Variables). Sim g C p (u .machine) (u .disk) l) (sym h) z
-  sim-run p s t l [] (b ∷ bs) z h = absurd h
-  sim-run p s t l (x ∷ xs) [] z h = absurd h
-  sim-run p s t l (x ∷ xs) (b ∷ bs) z h = sim-run p (h .0) t (heard g C b x l) xs bs (sim-goes p s (h .0) l x b z (h .1)) (h .2)
+  run-by s t l [] [] z h = subst (λ (u : Y.Variables). Sim g C p (u .machine) (u .disk) l) (sym h) z
+  run-by s t l [] (b ∷ bs) z h = absurd h
+  run-by s t l (x ∷ xs) [] z h = absurd h
+  run-by s t l (x ∷ xs) (b ∷ bs) z h = run-by (h .0) t (heard g C b x l) xs bs (kept-by s (h .0) l x b z (h .1)) (h .2)
+
+module _ (g : Geometry) (C : Codec) (L : Limits) where
+  pub sim-run : (p : ℕ) (s t : Y.Variables) (l : Ledger) (xs : List Call) (bs : List Bool) → Sim g C p (s .machine) (s .disk) l → Trace g C L s xs bs t → Sim g C p (t .machine) (t .disk) (books g C l xs bs)
+  sim-run p = run-by g C p (Takes g C L) (sim-step g C L p)
 
   -- and through a load: the ledger stays, the machine is clean
   pub record Reloading (p : ℕ) (s : Y.Variables) (l : Ledger) : Type 0 where
@@ -54,11 +58,11 @@ module _ (g : Geometry) (C : Codec) (L : Limits) where
   books-loads l (x ∷ xs) [] f = refl
   books-loads l (x ∷ xs) (b ∷ bs) f = ap (λ (k : Ledger). books g C k xs bs) (heard-loads l x b (f .0)) ∙ books-loads l xs bs (f .1)
 
-  -- lists one after another
-  pub books-append : (l : Ledger) (s t : Y.Variables) (xs : List Call) (bs : List Bool) (ys : List Call) (cs : List Bool) → Trace g C L s xs bs t
-      → books g C l (xs ++ ys) (bs ++ cs) ≡ books g C (books g C l xs bs) ys cs
-  unfolding books
-  books-append l s t [] [] ys cs h = refl
-  books-append l s t [] (b ∷ bs) ys cs h = absurd h
-  books-append l s t (x ∷ xs) [] ys cs h = absurd h
-  books-append l s t (x ∷ xs) (b ∷ bs) ys cs h = books-append (heard g C b x l) (h .0) t xs bs ys cs (h .2)
+-- lists one after another, whatever takes their calls
+pub books-append : (g : Geometry) (C : Codec) (l : Ledger) (goes : Y.Variables → Call → Bool → Y.Variables → Type 0) (s t : Y.Variables) (xs : List Call) (bs : List Bool) (ys : List Call) (cs : List Bool)
+    → Runs goes s xs bs t → books g C l (xs ++ ys) (bs ++ cs) ≡ books g C (books g C l xs bs) ys cs
+unfolding books
+books-append g C l goes s t [] [] ys cs h = refl
+books-append g C l goes s t [] (b ∷ bs) ys cs h = absurd h
+books-append g C l goes s t (x ∷ xs) [] ys cs h = absurd h
+books-append g C l goes s t (x ∷ xs) (b ∷ bs) ys cs h = books-append g C (heard g C b x l) goes (h .0) t xs bs ys cs (h .2)

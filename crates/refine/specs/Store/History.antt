@@ -4,7 +4,7 @@ use Prim.Native.Nat.{ℕ, _≤_}
 use mathlib.Core.Bool.{Bool, true, false}
 use mathlib.Core.Logic.{_↔_}
 use mathlib.Core.Path.{_≡_, refl, sym, _∙_, ap, subst}
-use mathlib.Core.List.{List, [], _∷_, map}
+use mathlib.Core.List.{List, [], _∷_, _++_, map}
 use Rattle.laws.specs.Choice.{ruin}
 use Rattle.layout.specs.declared.Geometry.{Geometry}
 use Rattle.layout.specs.declared.Location.{Location}
@@ -13,10 +13,11 @@ use Rattle.codec.specs.Format.{format}
 use Rattle.source.specs.JournalSystem as Y
 use Rattle.source.specs.JournalCache as M
 use Rattle.source.specs.Limits.{limits}
-use Rattle.history.specs.Ledger.{Shown, shown}
+use Rattle.history.specs.Ledger.{Call, Shown, shown}
 use Rattle.history.specs.Statement as history
-use Rattle.history.specs.Statement.{Takes, Ran, LoadedStore, Tells, ledgerOf, shows}
-use Rattle.history.specs.Demand.{two-stores}
+use Rattle.history.specs.Statement.{Takes, Ran, LoadedStore, ledgerOf, shows}
+use Rattle.history.specs.Earlier.{TraceEver}
+use Rattle.history.specs.Demand.{two-stores, store-earlier-tells}
 use Rattle.machine.specs.declared.Kind.{Kind}
 use Rattle.machine.specs.declared.Kind.the-variants as kind
 use Rattle.machine.specs.Machine.{byKind}
@@ -27,8 +28,8 @@ use Rattle.store.specs.Lent.{Lent, machineLent}
 use Rattle.calls.specs.declared.calls.Step.{Step}
 use Rattle.calls.specs.Given.{Given}
 use Rattle.calls.specs.Step.{stepped, steppedLent}
-use Rattle.refine.specs.Machine.ReadyView.{readyOf, replayOf}
-use Rattle.refine.specs.Machine.MachineView.{readyLent, syncsOf, machineOf}
+use Rattle.refine.specs.Machine.ReadyView.{readyOf}
+use Rattle.refine.specs.Machine.MachineView.{readyLent, syncsOf}
 use Rattle.refine.specs.Machine.MachineWork.{work-form}
 use Rattle.refine.specs.Store.Seen.{seen, SizedStore, callOf}
 use Rattle.refine.specs.Store.Sound.{store-takes, store-refused}
@@ -171,3 +172,16 @@ code-demand-3 g first loc i s calls answers crashing loading loaded r s′ calls
       first-shows = ap shows (a .1) ∙ t .first-shows;
       second-shows = ap shows (b .1) ∙ t .second-shows;
     }
+
+-- A disk from before: the store is handed what calls of this release and of earlier ones left, adds of entries of zeros only among them. What it loads
+-- then shows the ledger of the whole history.
+pub code-earlier-tells : (g : Geometry) (first : Y.Variables) (loc : Location) (i : Y.Init g first loc)
+    (middle : Y.Variables) (before : List Call) (answered : List Bool) → TraceEver g format limits first before answered middle
+    → (s : State) (calls : List Made) (answers : List Bool) (crashing : Made) (loading : List Made) (loaded : List Bool) (r : M.ReadyVariables)
+    → (h : LoadedStore (codeStore g) middle s calls answers crashing loading loaded r)
+    → (h .end .store .machine .kind ≡ kind.Ready)
+    × (shows (readySeen (h .end))
+    ≡ shown format (ledgerOf g format first loc i (before ++ map (codeStore g .call) calls) (answered ++ answers) (map (codeStore g .call) loading) loaded))
+code-earlier-tells g first loc i middle before answered ever s calls answers crashing loading loaded r h =
+    let a = loaded-ready g (h .end) r (h .ready) in
+    (a .0, ap shows (a .1 ∙ store-earlier-tells g first loc i middle before answered ever (codeStore g) s calls answers crashing loading loaded r h))
