@@ -3,16 +3,18 @@ use super::command;
 use super::command::Command;
 use super::input::Input;
 use super::row;
+use super::stored;
 use calls::Step;
 use digest::check_number;
 use layout::Geometry;
 use runs::lesser;
 use store::Store;
 
-// The store so far, and the number of the last line.
+// The store so far, the number of the last line, and whether a step came already.
 pub(crate) struct Day {
     pub store: Store,
     pub row: u64,
+    pub begun: bool,
 }
 
 // The number after this one; the largest stays.
@@ -23,8 +25,8 @@ fn after(row: u64) -> u64 {
     row + 1
 }
 
-fn at_row(store: Store, row: u64) -> Day {
-    Day { store, row }
+fn at_row(store: Store, row: u64, begun: bool) -> Day {
+    Day { store, row, begun }
 }
 
 // What a line says; one that is too long says nothing.
@@ -34,6 +36,20 @@ fn command_of(line: &[u8], i: Input, brought: &mut [u8], sizes: &mut [u16]) -> C
     }
     let n = lesser(i.len, line.len());
     command::parse(&line[0..n], brought, sizes)
+}
+
+// A line that isn't a step: before the first one it may say what a block holds, else a row says that it isn't one.
+fn other_line(begun: bool, n: u64, line: &[u8], i: Input, blocks: &mut [u8], marks: &mut [u8]) {
+    if begun | i.long {
+        row::not_a_step(n);
+        return;
+    }
+    let end = lesser(i.len, line.len());
+    let stored = stored::store_line(&line[0..end], blocks, marks);
+    if stored {
+        return;
+    }
+    row::not_a_step(n);
 }
 
 // The step with the entries that it brings, and its row.
@@ -113,8 +129,8 @@ pub(crate) fn turn(
     let mut sizes = [0u16; 8192];
     let c = command_of(line, i, &mut brought, &mut sizes);
     let Command::Is(x) = c else {
-        row::not_a_step(n);
-        return at_row(s, n);
+        other_line(d.begun, n, line, i, blocks, marks);
+        return at_row(s, n, d.begun);
     };
     let next = step(
         s,
@@ -131,5 +147,5 @@ pub(crate) fn turn(
         blocks,
         marks,
     );
-    at_row(next, n)
+    at_row(next, n, true)
 }

@@ -1,5 +1,6 @@
-// A day of the store, traced: the first line of input is a disk, each other line a step, and a row of output says what it came to. A line
-// that isn't a step says so with its number, alters nothing, and the day goes on. Only the line and the next chunk of input are held.
+// A day of the store, traced: the first line of input is a disk, lines behind it may say what its blocks hold, each other line is a step, and a row of
+// output says what it came to. A line that isn't a step says so with its number, alters nothing, and the day goes on. Only the line and the next chunk
+// of input are held.
 mod brought;
 mod command;
 mod day;
@@ -7,6 +8,7 @@ mod first;
 mod input;
 mod numbers;
 mod row;
+mod stored;
 
 use day::Day;
 use first::First;
@@ -128,7 +130,11 @@ fn main() {
     let g = f.geometry;
     let slots = f.slots;
     let s = Store::initial(slots);
-    let d = Day { store: s, row: 0 };
+    let d = Day {
+        store: s,
+        row: 0,
+        begun: false,
+    };
     play(
         d,
         g,
