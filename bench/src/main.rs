@@ -1,5 +1,7 @@
 //! bench              every piece of work, timed, as a table
 //! bench once NAME SIDE COUNT   one piece of work so often, by `ours` or `plain`: for an instruction counter
+#[cfg(test)]
+mod blank;
 mod callgrind;
 mod day;
 #[cfg(test)]

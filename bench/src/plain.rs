@@ -231,6 +231,16 @@ pub struct Machine {
     pub taken: (usize, usize),
 }
 
+/// Is one of the entries of zeros only?
+fn some_blank(brought: &[u8], sizes: &[u16]) -> bool {
+    let mut rest = brought;
+    sizes.iter().any(|&n| {
+        let (entry, behind) = rest.split_at(usize::from(n));
+        rest = behind;
+        entry.iter().all(|&b| b == 0)
+    })
+}
+
 impl Machine {
     /// Question 2 of the record.
     fn ok(&self) -> bool {
@@ -269,6 +279,9 @@ impl Machine {
     pub fn add(&mut self, brought: &[u8], sizes: &[u16], l: &mut Lent) -> Answer<()> {
         let (_, pending) = self.ask(l)?;
         let new = if sizes.len() <= 16 { held(sizes, brought.len()).ok_or(4)? } else { return Err(4) };
+        if some_blank(brought, sizes) {
+            return Err(13);
+        }
         if self.taken.0 < self.replay {
             return Err(6);
         }

@@ -245,7 +245,8 @@ fn look_replay(what: &'static str, blocks: usize, n: usize) -> Work {
     }
 }
 
-fn machine(n: usize, pending: usize, replay: usize) -> Machine {
+/// A machine at work with so many pending entries and so many to be replayed.
+pub fn machine(n: usize, pending: usize, replay: usize) -> Machine {
     Machine {
         n,
         t: 4096,
@@ -276,8 +277,15 @@ fn same_lent(a: &Lent, b: &Lent) -> bool {
     a.bytes == b.bytes && a.lens == b.lens && a.rbytes == b.rbytes && a.rlens == b.rlens
 }
 
-fn add(what: &'static str, n: usize, pending: usize) -> Work {
-    let brought = Rc::new(entries(16, 60));
+/// Entries of zeros but for one byte within: every byte of them is looked at.
+fn nearly_blank(n: usize, size: u16) -> (Vec<u8>, Vec<u16>) {
+    let within = usize::from(size) * 3 / 4;
+    let bytes = (0..n * usize::from(size)).map(|i| u8::from(i % usize::from(size) == within)).collect();
+    (bytes, vec![size; n])
+}
+
+fn add(what: &'static str, n: usize, pending: usize, brought: (Vec<u8>, Vec<u16>)) -> Work {
+    let brought = Rc::new(brought);
     let (a, b, c) = (brought.clone(), brought.clone(), brought);
     let (mut ours, mut theirs) = (lent(n, 60), lent(n, 60));
     Work {
@@ -385,9 +393,19 @@ pub fn all() -> Vec<(&'static str, fn() -> Work)> {
         ("marks-4096", || look_marks("question 1 of a journal, N = 4,096", 4096)),
         ("pending", || look_pending("question 2 of 1,024 pending entries", 1024)),
         ("replay-look", || look_replay("question 2 of 1,000,000 replay entries", 1024, 1_000_000)),
-        ("add", || add("an add of 16 entries of 60 bytes, N = 8, none held", 8, 0)),
-        ("add-4096", || add("an add of 16 entries of 60 bytes, N = 4,096, none held", 4096, 0)),
-        ("add-held", || add("an add of 16 entries of 60 bytes, N = 8, 1,000 held", 8, 1000)),
+        ("add", || add("an add of 16 entries of 60 bytes, N = 8, none held", 8, 0, entries(16, 60))),
+        ("add-4096", || {
+            add("an add of 16 entries of 60 bytes, N = 4,096, none held", 4096, 0, entries(16, 60))
+        }),
+        ("add-held", || add("an add of 16 entries of 60 bytes, N = 8, 1,000 held", 8, 1000, entries(16, 60))),
+        ("add-zeros", || {
+            add(
+                "an add of 16 entries of 60 bytes, 59 of them 0, N = 8, none held",
+                8,
+                0,
+                nearly_blank(16, 60),
+            )
+        }),
         ("journal-write-1", || journal_write("a journal write of 1 entry of 60 bytes, N = 32", 32, 1)),
         ("journal-write", || journal_write("a journal write of 1,024 entries of 60 bytes, N = 32", 32, 1024)),
         ("replay-step", || replay("a replay step by 16 of 1,000,000 entries left", 1024, 1_000_000, 1)),
