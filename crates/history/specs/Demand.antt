@@ -4,7 +4,7 @@
 -- its own ledger.
 use mathlib.Core.Bool.{Bool}
 use mathlib.Core.Path.{_≡_}
-use mathlib.Core.List.{List, _++_, map}
+use mathlib.Core.List.{List, map}
 use Rattle.layout.specs.declared.Geometry.{Geometry}
 use Rattle.layout.specs.declared.Location.{Location}
 use Rattle.codec.specs.Format.{format}
@@ -15,9 +15,8 @@ use Rattle.history.specs.Ledger.{Call, shown}
 use Rattle.history.specs.Statement.{Loaded, ledgerOf, Tells, readyBy, slotBy, Store, LoadedStore}
 use Rattle.history.specs.Whole.History
 use Rattle.history.specs.Whole.History.{whole-history}
-use Rattle.history.specs.Earlier.{TraceEver}
-use Rattle.history.specs.Whole.Stores.{stores-tell}
-use Rattle.history.specs.Whole.Ever.{ever-tells, store-ever-tells}
+use Rattle.history.specs.Earlier.{Past, ledgerSince, noPast}
+use Rattle.history.specs.Whole.Ever.{since-tells, stores-since-tell}
 
 pub demand-3 : (g : Geometry) (first : Y.Variables) (loc : Location) (i : Y.Init g first loc)
     (calls : List Call) (answers : List Bool) (loading : List Call) (loaded : List Bool) (r : M.ReadyVariables)
@@ -37,7 +36,27 @@ pub loaded-tells : (g : Geometry) (first : Y.Variables) (loc : Location) (i : Y.
     r ≡ readyBy v (slotBy g first loc i (v .counter))
 loaded-tells g first loc i = History.loaded-tells g format limits first loc i
 
--- the same of any two stores, each with its own states and calls (two suppliers), whose first states are seen as one state that meets `Init`
+-- A disk from before. What came before (`Past`) was taken by this release or by earlier ones, adds of entries of zeros only among it. Every field of a machine
+-- that is loaded behind it is told by the ledger of the whole history, such entries included: they are written, loaded and replayed as they are.
+pub earlier-tells : (g : Geometry) (first : Y.Variables) (loc : Location) (i : Y.Init g first loc) (past : Past g format limits first)
+    (calls : List Call) (answers : List Bool) (loading : List Call) (loaded : List Bool) (r : M.ReadyVariables)
+    → Loaded g format limits (past .left) calls answers loading loaded r
+    → let v = shown format (ledgerSince g format limits first loc i past calls answers loading loaded) in
+    r ≡ readyBy v (slotBy g first loc i (v .counter))
+earlier-tells g first loc i = since-tells g format limits first loc i
+
+-- Demand 3 of any two stores, each with its own states and calls (two suppliers), that are handed what came before, each its own
+pub earlier-two-stores : (g : Geometry) (first : Y.Variables) (loc : Location) (i : Y.Init g first loc) (past past′ : Past g format limits first) (S S′ : Store g format limits)
+    (s : S .State) (calls : List (S .Made)) (answers : List Bool) (crashing : S .Made) (loading : List (S .Made)) (loaded : List Bool) (r : M.ReadyVariables)
+    (s′ : S′ .State) (calls′ : List (S′ .Made)) (answers′ : List Bool) (crashing′ : S′ .Made) (loading′ : List (S′ .Made)) (loaded′ : List Bool) (q : M.ReadyVariables)
+    → LoadedStore S (past .left) s calls answers crashing loading loaded r
+    → LoadedStore S′ (past′ .left) s′ calls′ answers′ crashing′ loading′ loaded′ q
+    → Tells r q
+    (shown format (ledgerSince g format limits first loc i past (map (S .call) calls) answers (map (S .call) loading) loaded))
+    (shown format (ledgerSince g format limits first loc i past′ (map (S′ .call) calls′) answers′ (map (S′ .call) loading′) loaded′))
+earlier-two-stores g first loc i = stores-since-tell g format limits first loc i
+
+-- the same where nothing came before: their first states are seen as one state that meets `Init`
 pub two-stores : (g : Geometry) (S S′ : Store g format limits) (first : Y.Variables) (loc : Location) (i : Y.Init g first loc)
     (s : S .State) (calls : List (S .Made)) (answers : List Bool) (crashing : S .Made) (loading : List (S .Made)) (loaded : List Bool) (r : M.ReadyVariables)
     (s′ : S′ .State) (calls′ : List (S′ .Made)) (answers′ : List Bool) (crashing′ : S′ .Made) (loading′ : List (S′ .Made)) (loaded′ : List Bool) (q : M.ReadyVariables)
@@ -46,22 +65,4 @@ pub two-stores : (g : Geometry) (S S′ : Store g format limits) (first : Y.Vari
     → Tells r q
     (shown format (ledgerOf g format first loc i (map (S .call) calls) answers (map (S .call) loading) loaded))
     (shown format (ledgerOf g format first loc i (map (S′ .call) calls′) answers′ (map (S′ .call) loading′) loaded′))
-two-stores g = stores-tell g format limits
-
--- A disk from before: the calls up to `middle` were taken by this release or by earlier ones (Earlier), among them adds of entries of zeros only. What is
--- loaded from then on shows the ledger of the whole history, such entries included: they are written, loaded and replayed as they are.
-module _ (g : Geometry) (first : Y.Variables) (loc : Location) (i : Y.Init g first loc) (middle : Y.Variables) (before : List Call) (answered : List Bool)
-    (ever : TraceEver g format limits first before answered middle) where
-  pub earlier-tells : (calls : List Call) (answers : List Bool) (loading : List Call) (loaded : List Bool) (r : M.ReadyVariables)
-      → Loaded g format limits middle calls answers loading loaded r
-      → let v = shown format (ledgerOf g format first loc i (before ++ calls) (answered ++ answers) loading loaded) in
-      r ≡ readyBy v (slotBy g first loc i (v .counter))
-  earlier-tells = ever-tells g format limits first loc i middle before answered ever
-
-  -- of any store whose first state is seen as `middle`
-  pub store-earlier-tells : (S : Store g format limits)
-      (s : S .State) (calls : List (S .Made)) (answers : List Bool) (crashing : S .Made) (loading : List (S .Made)) (loaded : List Bool) (r : M.ReadyVariables)
-      → LoadedStore S middle s calls answers crashing loading loaded r
-      → let v = shown format (ledgerOf g format first loc i (before ++ map (S .call) calls) (answered ++ answers) (map (S .call) loading) loaded) in
-      r ≡ readyBy v (slotBy g first loc i (v .counter))
-  store-earlier-tells = store-ever-tells g format limits first loc i middle before answered ever
+two-stores g S S′ first loc i = earlier-two-stores g first loc i (noPast g format limits first) (noPast g format limits first) S S′

@@ -32,9 +32,9 @@ use Rattle.history.specs.Simulation.Relation.{superOf, Pieces, Sim}
 use Rattle.history.specs.Statement.{Tied, tied-finish-superblocks, tied-finish-other, tied-crash, Takes, loads, readyBy, Trace, Loaded}
 use Rattle.history.specs.Simulation.Steps.{sim-step}
 use Rattle.history.specs.Whole.Reloaded.{loaded-whole}
-use Rattle.history.specs.Earlier.{TraceEver}
+use Rattle.history.specs.Earlier.{Past}
 use Rattle.history.specs.Whole.Lists.{sim-run}
-use Rattle.history.specs.Whole.Ever.{ever-sim}
+use Rattle.history.specs.Whole.Ever.{past-sim}
 use Rattle.history.specs.Whole.First.{firstParity, init-sim}
 use Rattle.history.specs.Loads.Comes.{slotCalls, pieceCalls, loadCalls, taken, Comes, here, by, comes-then, comes-trace, comes-loads}
 use Rattle.history.specs.Loads.Superblocks.{resting, Room, disk-meets, joined, Read, read-put, superblocksAt, machine-superblocks, slot-read}
@@ -323,12 +323,11 @@ crash-loads g C L room first loc i calls answers before after ran crashed sized 
     let k = crash-loads-from g C L room first loc i calls answers before after ran crashed sized in (k .0, k .1)
 
 -- the same behind calls of earlier releases
-pub earlier-loads : (g : Geometry) (C : Codec) (L : Limits) → Room L → (first : Y.Variables) (loc : Location) (i : Y.Init g first loc)
-    (middle : Y.Variables) (earlier : List Call) (answered : List Bool) → TraceEver g C L first earlier answered middle
-    → (calls : List Call) (answers : List Bool) (before after : Y.Variables) → Trace g C L middle calls answers before → Takes g C L before after crash → Sized (after .disk .journal)
-    → let v = superOf C (books g C (books g C (begin (SuperblockOfDisk g (first .disk) (i .wf))) earlier answered) calls answers .kept) in
-    (r : M.ReadyVariables) × Loaded g C L middle calls answers (loadCalls g v) (taken (loadCalls g v)) r
-earlier-loads g C L room first loc i middle earlier answered ever calls answers before after ran crashed sized =
-    let k = loads-from g C L room (firstParity g C first loc i) middle (books g C (begin (SuperblockOfDisk g (first .disk) (i .wf))) earlier answered)
-    (ever-sim g C L first loc i middle earlier answered ever) calls answers before after ran crashed sized in
+pub earlier-loads : (g : Geometry) (C : Codec) (L : Limits) → Room L → (first : Y.Variables) (loc : Location) (i : Y.Init g first loc) (past : Past g C L first)
+    → (calls : List Call) (answers : List Bool) (before after : Y.Variables) → Trace g C L (past .left) calls answers before → Takes g C L before after crash → Sized (after .disk .journal)
+    → let v = superOf C (books g C (books g C (begin (SuperblockOfDisk g (first .disk) (i .wf))) (past .calls) (past .answers)) calls answers .kept) in
+    (r : M.ReadyVariables) × Loaded g C L (past .left) calls answers (loadCalls g v) (taken (loadCalls g v)) r
+earlier-loads g C L room first loc i past calls answers before after ran crashed sized =
+    let k = loads-from g C L room (firstParity g C first loc i) (past .left) (books g C (begin (SuperblockOfDisk g (first .disk) (i .wf))) (past .calls) (past .answers))
+    (past-sim g C L first loc i past) calls answers before after ran crashed sized in
     (k .0, k .1)

@@ -58,6 +58,16 @@ pub clean-tells : (g : Geometry) (C : Codec) (first : Y.Variables) (loc : Locati
 clean-tells g C first loc i r v c =
     c .2 ∙ ap (readyBy v) (slot-parity (v .counter) (SuperblockOfDisk g (first .disk) (i .wf) .counter) (c .0) (selectedSecond (i .wf .first .value) (i .wf .second .value)) (c .1))
 
+-- so two of them are equal exactly when their ledgers are
+pub both-tell : (g : Geometry) (first : Y.Variables) (loc : Location) (i : Y.Init g first loc) (r q : M.ReadyVariables) (v u : Shown)
+    → r ≡ readyBy v (slotBy g first loc i (v .counter)) → q ≡ readyBy u (slotBy g first loc i (u .counter)) → Tells r q v u
+both-tell g first loc i r q v u r-is q-is =
+    record {
+      equal = (λ e. sym (ap shows r-is) ∙ ap shows e ∙ ap shows q-is, λ e. r-is ∙ (λ n. readyBy (e n) (slotBy g first loc i (e n .counter))) ∙ sym q-is);
+      first-shows = ap shows r-is;
+      second-shows = ap shows q-is;
+    }
+
 module _ (g : Geometry) (C : Codec) (L : Limits) (first : Y.Variables) (loc : Location) (i : Y.Init g first loc) where
   -- every field of a loaded machine is the ledger's
   pub loaded-tells : (calls : List Call) (answers : List Bool) (loading : List Call) (loaded : List Bool) (r : M.ReadyVariables) → Loaded g C L first calls answers loading loaded r
@@ -71,20 +81,4 @@ module _ (g : Geometry) (C : Codec) (L : Limits) (first : Y.Variables) (loc : Lo
       → Loaded g C L first calls answers loading loaded r → Loaded g C L first calls′ answers′ loading′ loaded′ q
       → Tells r q (shown C (ledgerOf g C first loc i calls answers loading loaded)) (shown C (ledgerOf g C first loc i calls′ answers′ loading′ loaded′))
   whole-history calls answers loading loaded r calls′ answers′ loading′ loaded′ q h k =
-      record {
-        equal = (λ e. sym (ap shows r-is) ∙ ap shows e ∙ ap shows q-is, λ e. r-is ∙ (λ n. readyBy (e n) (slotBy g first loc i (e n .counter))) ∙ sym q-is);
-        first-shows = ap shows r-is;
-        second-shows = ap shows q-is;
-      }
-    where
-      v : Shown
-      v = shown C (ledgerOf g C first loc i calls answers loading loaded)
-
-      u : Shown
-      u = shown C (ledgerOf g C first loc i calls′ answers′ loading′ loaded′)
-
-      r-is : r ≡ readyBy v (slotBy g first loc i (v .counter))
-      r-is = loaded-tells calls answers loading loaded r h
-
-      q-is : q ≡ readyBy u (slotBy g first loc i (u .counter))
-      q-is = loaded-tells calls′ answers′ loading′ loaded′ q k
+      both-tell g first loc i r q _ _ (loaded-tells calls answers loading loaded r h) (loaded-tells calls′ answers′ loading′ loaded′ q k)

@@ -1,17 +1,14 @@
--- Any two stores whose calls are seen as the relations': a list of calls that a store was given, with its answers, is a list of the history,
--- so that what whole histories tell, two stores tell.
+-- Any store whose calls are seen as the relations': a list of calls that it was given, with its answers, is a list of the history, so that what whole
+-- histories tell, stores tell.
 use mathlib.Core.Bool.{Bool, true, false}
 use mathlib.Core.Path.{ap, subst}
 use mathlib.Core.List.{List, [], _∷_, map}
 use Rattle.layout.specs.declared.Geometry.{Geometry}
-use Rattle.layout.specs.declared.Location.{Location}
 use Rattle.codec.specs.Codec.{Codec}
 use Rattle.source.specs.JournalCache as M
 use Rattle.source.specs.JournalSystem as Y
 use Rattle.source.specs.Limits.{Limits}
-use Rattle.history.specs.Ledger.{shown}
-use Rattle.history.specs.Statement.{Takes, Goes, Trace, Loaded, ledgerOf, Tells, Store, Ran, LoadedStore}
-use Rattle.history.specs.Whole.History.{whole-history}
+use Rattle.history.specs.Statement.{Takes, Goes, Trace, Loaded, Store, Ran, LoadedStore}
 
 module _ (g : Geometry) (C : Codec) (L : Limits) (S : Store g C L) where
   goes : (s : S .State) (x : S .Made) (b : Bool) (t : S .State) → S .Promise s x b t → Goes (Takes g C L) (S .view s) (S .call x) b (S .view t)
@@ -39,15 +36,3 @@ module _ (g : Geometry) (C : Codec) (L : Limits) (S : Store g C L) where
         only-loads = h .only-loads;
         ready = h .ready;
       }
-
-pub stores-tell : (g : Geometry) (C : Codec) (L : Limits) (S S′ : Store g C L) (first : Y.Variables) (loc : Location) (i : Y.Init g first loc)
-    (s : S .State) (calls : List (S .Made)) (answers : List Bool) (crashing : S .Made) (loading : List (S .Made)) (loaded : List Bool) (r : M.ReadyVariables)
-    (s′ : S′ .State) (calls′ : List (S′ .Made)) (answers′ : List Bool) (crashing′ : S′ .Made) (loading′ : List (S′ .Made)) (loaded′ : List Bool) (q : M.ReadyVariables)
-    → LoadedStore S first s calls answers crashing loading loaded r
-    → LoadedStore S′ first s′ calls′ answers′ crashing′ loading′ loaded′ q
-    → Tells r q
-    (shown C (ledgerOf g C first loc i (map (S .call) calls) answers (map (S .call) loading) loaded))
-    (shown C (ledgerOf g C first loc i (map (S′ .call) calls′) answers′ (map (S′ .call) loading′) loaded′))
-stores-tell g C L S S′ first loc i s calls answers crashing loading loaded r s′ calls′ answers′ crashing′ loading′ loaded′ q h k =
-    whole-history g C L first loc i (map (S .call) calls) answers (map (S .call) loading) loaded r (map (S′ .call) calls′) answers′ (map (S′ .call) loading′) loaded′ q
-    (store-loaded g C L S first s calls answers crashing loading loaded r h) (store-loaded g C L S′ first s′ calls′ answers′ crashing′ loading′ loaded′ q k)

@@ -4,7 +4,7 @@ use Prim.Native.Nat.{ℕ, _≤_}
 use mathlib.Core.Bool.{Bool, true, false}
 use mathlib.Core.Logic.{_↔_}
 use mathlib.Core.Path.{_≡_, refl, sym, _∙_, ap, subst}
-use mathlib.Core.List.{List, [], _∷_, _++_, map}
+use mathlib.Core.List.{List, [], _∷_, map}
 use Rattle.laws.specs.Choice.{ruin}
 use Rattle.layout.specs.declared.Geometry.{Geometry}
 use Rattle.layout.specs.declared.Location.{Location}
@@ -13,11 +13,11 @@ use Rattle.codec.specs.Format.{format}
 use Rattle.source.specs.JournalSystem as Y
 use Rattle.source.specs.JournalCache as M
 use Rattle.source.specs.Limits.{limits}
-use Rattle.history.specs.Ledger.{Call, Shown, shown}
+use Rattle.history.specs.Ledger.{Shown, shown}
 use Rattle.history.specs.Statement as history
 use Rattle.history.specs.Statement.{Takes, Ran, LoadedStore, ledgerOf, shows}
-use Rattle.history.specs.Earlier.{TraceEver}
-use Rattle.history.specs.Demand.{two-stores, store-earlier-tells}
+use Rattle.history.specs.Earlier.{Past, ledgerSince, noPast}
+use Rattle.history.specs.Demand.{earlier-two-stores}
 use Rattle.machine.specs.declared.Kind.{Kind}
 use Rattle.machine.specs.declared.Kind.the-variants as kind
 use Rattle.machine.specs.Machine.{byKind}
@@ -148,16 +148,17 @@ pub record Demand3 (s t : State) (v u : Shown) : Type 0 where
   pub first-shows : shows (readySeen s) ≡ v
   pub second-shows : shows (readySeen t) ≡ u
 
-pub code-demand-3 : (g : Geometry) (first : Y.Variables) (loc : Location) (i : Y.Init g first loc)
+-- the same where something came before, taken by this release or by earlier ones, adds of entries of zeros only among it: each store is handed what it left
+pub code-earlier-demand-3 : (g : Geometry) (first : Y.Variables) (loc : Location) (i : Y.Init g first loc) (past past′ : Past g format limits first)
     (s : State) (calls : List Made) (answers : List Bool) (crashing : Made) (loading : List Made) (loaded : List Bool) (r : M.ReadyVariables)
     (s′ : State) (calls′ : List Made) (answers′ : List Bool) (crashing′ : Made) (loading′ : List Made) (loaded′ : List Bool) (q : M.ReadyVariables)
-    → (h : LoadedStore (codeStore g) first s calls answers crashing loading loaded r)
-    → (k : LoadedStore (codeStore g) first s′ calls′ answers′ crashing′ loading′ loaded′ q)
+    → (h : LoadedStore (codeStore g) (past .left) s calls answers crashing loading loaded r)
+    → (k : LoadedStore (codeStore g) (past′ .left) s′ calls′ answers′ crashing′ loading′ loaded′ q)
     → Demand3 (h .end) (k .end)
-    (shown format (ledgerOf g format first loc i (map (codeStore g .call) calls) answers (map (codeStore g .call) loading) loaded))
-    (shown format (ledgerOf g format first loc i (map (codeStore g .call) calls′) answers′ (map (codeStore g .call) loading′) loaded′))
-code-demand-3 g first loc i s calls answers crashing loading loaded r s′ calls′ answers′ crashing′ loading′ loaded′ q h k =
-    let t = two-stores g (codeStore g) (codeStore g) first loc i s calls answers crashing loading loaded r s′ calls′ answers′ crashing′ loading′ loaded′ q h k in
+    (shown format (ledgerSince g format limits first loc i past (map (codeStore g .call) calls) answers (map (codeStore g .call) loading) loaded))
+    (shown format (ledgerSince g format limits first loc i past′ (map (codeStore g .call) calls′) answers′ (map (codeStore g .call) loading′) loaded′))
+code-earlier-demand-3 g first loc i past past′ s calls answers crashing loading loaded r s′ calls′ answers′ crashing′ loading′ loaded′ q h k =
+    let t = earlier-two-stores g first loc i past past′ (codeStore g) (codeStore g) s calls answers crashing loading loaded r s′ calls′ answers′ crashing′ loading′ loaded′ q h k in
     let a = loaded-ready g (h .end) r (h .ready) in
     let b = loaded-ready g (k .end) q (k .ready) in
     record {
@@ -166,22 +167,19 @@ code-demand-3 g first loc i s calls answers crashing loading loaded r s′ calls
       equal = (
         (λ same. t .equal .0 (sym (a .1) ∙ same-seen _ _ _ _ _ _ same ∙ b .1)),
         (λ ledgers.
-            seen-same _ _ _ _ _ _ (loaded-which g first s calls answers crashing loading loaded r h (a .0)) (loaded-which g first s′ calls′ answers′ crashing′ loading′ loaded′ q k (b .0))
+            seen-same _ _ _ _ _ _ (loaded-which g (past .left) s calls answers crashing loading loaded r h (a .0)) (loaded-which g (past′ .left) s′ calls′ answers′ crashing′ loading′ loaded′ q k (b .0))
             (a .1 ∙ t .equal .1 ledgers ∙ sym (b .1))),
       );
       first-shows = ap shows (a .1) ∙ t .first-shows;
       second-shows = ap shows (b .1) ∙ t .second-shows;
     }
 
--- A disk from before: the store is handed what calls of this release and of earlier ones left, adds of entries of zeros only among them. What it loads
--- then shows the ledger of the whole history.
-pub code-earlier-tells : (g : Geometry) (first : Y.Variables) (loc : Location) (i : Y.Init g first loc)
-    (middle : Y.Variables) (before : List Call) (answered : List Bool) → TraceEver g format limits first before answered middle
-    → (s : State) (calls : List Made) (answers : List Bool) (crashing : Made) (loading : List Made) (loaded : List Bool) (r : M.ReadyVariables)
-    → (h : LoadedStore (codeStore g) middle s calls answers crashing loading loaded r)
-    → (h .end .store .machine .kind ≡ kind.Ready)
-    × (shows (readySeen (h .end))
-    ≡ shown format (ledgerOf g format first loc i (before ++ map (codeStore g .call) calls) (answered ++ answers) (map (codeStore g .call) loading) loaded))
-code-earlier-tells g first loc i middle before answered ever s calls answers crashing loading loaded r h =
-    let a = loaded-ready g (h .end) r (h .ready) in
-    (a .0, ap shows (a .1 ∙ store-earlier-tells g first loc i middle before answered ever (codeStore g) s calls answers crashing loading loaded r h))
+pub code-demand-3 : (g : Geometry) (first : Y.Variables) (loc : Location) (i : Y.Init g first loc)
+    (s : State) (calls : List Made) (answers : List Bool) (crashing : Made) (loading : List Made) (loaded : List Bool) (r : M.ReadyVariables)
+    (s′ : State) (calls′ : List Made) (answers′ : List Bool) (crashing′ : Made) (loading′ : List Made) (loaded′ : List Bool) (q : M.ReadyVariables)
+    → (h : LoadedStore (codeStore g) first s calls answers crashing loading loaded r)
+    → (k : LoadedStore (codeStore g) first s′ calls′ answers′ crashing′ loading′ loaded′ q)
+    → Demand3 (h .end) (k .end)
+    (shown format (ledgerOf g format first loc i (map (codeStore g .call) calls) answers (map (codeStore g .call) loading) loaded))
+    (shown format (ledgerOf g format first loc i (map (codeStore g .call) calls′) answers′ (map (codeStore g .call) loading′) loaded′))
+code-demand-3 g first loc i = code-earlier-demand-3 g first loc i (noPast g format limits first) (noPast g format limits first)
