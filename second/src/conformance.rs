@@ -1,16 +1,18 @@
 //! The conformance days: short days, each step with the refusal that document 01 gives it, and one long random day.
 
-use crate::coverage::STEPS;
+use crate::coverage::{REFUSALS, STEPS};
 use crate::handed_conformance;
 use crate::range::Entry;
 use crate::scripts::DAYS;
 use crate::sector_conformance;
+use crate::store::Step;
 use crate::text::{entries_line, parse_step};
 use crate::trace;
 
 /// A day's name, what it shows, and its lines, parted by commas or line feeds. A step is taken unless
-/// `=R` says which refusal it meets; `? line` is not a step; `! line` is not a disk; `^K` pads a line to K
-/// bytes; `#KxL` stands for K entries of L bytes, `@name` for the lines below, `~` for no line feed at the end.
+/// `=R` says which refusal it meets; a `block` line has no row; `? line` is not a step; `! line` is not a disk;
+/// `^K` pads a line to K bytes; `#KxL` stands for K entries of L bytes; `00*L` for L bytes 00, `00*L*K` for K such
+/// words, `41+00*L` for one behind the other; `@name` for the lines below, `~` for no line feed at the end.
 pub type Script = (&'static str, &'static str, &'static str);
 
 pub struct Conformance {
@@ -42,6 +44,7 @@ struct Line {
 enum Expected {
     Disk,
     NoDisk,
+    Block,
     Refusal(String),
     NoStep,
 }
@@ -51,7 +54,19 @@ fn pattern(count: usize, len: usize, from: usize) -> impl Iterator<Item = Entry>
     (from..from + count).map(move |j| (0..len).map(|k| (j * 31 + k * 7 + len) as u8).collect())
 }
 
-/// The words `#KxL` spelled out as hexadecimal entries.
+/// Bytes behind each other, `HH*L` being L bytes HH, `HH*L*K` K words of them.
+fn repeated(word: &str) -> String {
+    let piece = |piece: &str| {
+        let mut parts = piece.split('*');
+        let bytes = parts.next().unwrap_or_default().to_string();
+        let mut count = || parts.next().map_or(1, |k| k.parse().expect("a count"));
+        let bytes = bytes.repeat(count());
+        vec![bytes; count()].join(" ")
+    };
+    word.split('+').map(piece).collect()
+}
+
+/// The words `#KxL` and `HH*L` spelled out as hexadecimal digits.
 fn spelled(line: &str) -> String {
     let mut text = String::new();
     let mut from = 0;
@@ -64,6 +79,7 @@ fn spelled(line: &str) -> String {
                 from += count;
                 text += if word.ends_with(' ') { " " } else { "" };
             }
+            None if word.contains(['*', '+']) && !word.starts_with('+') => text += &repeated(word),
             None => text += word,
         }
     }
@@ -77,6 +93,7 @@ fn line(source: &str) -> Line {
         (Some(text), _) => (text.strip_prefix(' ').unwrap_or(text), Expected::NoStep),
         (_, Some(text)) => (text.strip_prefix(' ').unwrap_or(text), Expected::NoDisk),
         _ if text.trim().starts_with("disk") => (text, Expected::Disk),
+        _ if text.trim().starts_with("block") => (text, Expected::Block),
         _ => (text, Expected::Refusal(refusal.into())),
     };
     let len: usize = len.parse().expect("a length");
@@ -108,13 +125,15 @@ fn played((name, shows, script): &Script) -> Conformance {
     let input = if texts.is_empty() { String::new() } else { texts.join("\n") + end };
     let rows = rows(&input);
     let disk = matches!(lines.first(), Some(Line { expected: Expected::Disk, .. }));
-    assert_eq!(rows.lines().count(), if disk { lines.len() } else { 1 }, "{name}");
-    for (n, (line, row)) in lines.iter().zip(rows.lines()).enumerate() {
+    let shown = lines.iter().enumerate().filter(|(_, line)| !matches!(line.expected, Expected::Block));
+    assert_eq!(rows.lines().count(), if disk { shown.clone().count() } else { 1 }, "{name}");
+    for ((n, line), row) in shown.zip(rows.lines()) {
         let right = match &line.expected {
             Expected::Disk => n == 0 && row == trace::HEADER,
             Expected::NoDisk => n == 0 && row == "line 0 is not a disk",
+            Expected::Block => false,
             Expected::NoStep => row == format!("line {n} is not a step"),
-            Expected::Refusal(r) => row.split(' ').nth(1) == Some(r) && !row.starts_with("line"),
+            Expected::Refusal(r) => row.starts_with(&format!("{n} {r} ")),
         };
         assert!(right, "{name}, line {n}: {:.80}\n{row}", line.text);
     }
@@ -129,20 +148,29 @@ pub fn days() -> Vec<Conformance> {
     days
 }
 
-/// Each step's word, and for each refusal the first day that meets it, the long one aside.
-pub fn coverage(days: &[Conformance]) -> Vec<(&'static str, [Option<&'static str>; 10])> {
-    let mut table: Vec<_> = STEPS.iter().map(|(word, _)| (*word, [None; 10])).collect();
+/// Each step's word, and for each of `REFUSALS` the first day that meets it, the long one aside.
+pub fn coverage(days: &[Conformance]) -> Vec<(&'static str, [Option<&'static str>; REFUSALS.len()])> {
+    let mut table: Vec<_> = STEPS.iter().map(|(word, _)| (*word, [None; REFUSALS.len()])).collect();
     for day in days.iter().filter(|day| day.name != "long") {
-        for (line, row) in day.input.lines().zip(day.rows.lines()).skip(1) {
-            let Some(step) = parse_step(line.as_bytes()) else { continue };
-            let refusal = row.split(' ').nth(1).and_then(|r| r.parse::<usize>().ok());
+        for (step, refusal) in answers(day) {
             let row = table.iter_mut().find(|(word, _)| *word == step.word());
-            if let (Some((_, cells)), Some(refusal)) = (row, refusal) {
-                cells[refusal].get_or_insert(day.name);
+            let cell = REFUSALS.iter().position(|r| *r == refusal);
+            if let (Some((_, cells)), Some(cell)) = (row, cell) {
+                cells[cell].get_or_insert(day.name);
             }
         }
     }
     table
+}
+
+/// A day's steps with their refusals: a row begins with its line's number.
+fn answers(day: &Conformance) -> impl Iterator<Item = (Step, u8)> + '_ {
+    let lines: Vec<&str> = day.input.lines().collect();
+    day.rows.lines().filter_map(move |row| {
+        let mut numbers = row.split(' ').map(|word| word.parse::<usize>().ok());
+        let (line, refusal) = (lines.get(numbers.next()??)?, numbers.next()??);
+        Some((parse_step(line.as_bytes())?, refusal as u8))
+    })
 }
 
 /// The two tables of conformance/README.md.
@@ -152,8 +180,8 @@ pub fn tables() -> String {
     for Conformance { name, shows, input, .. } in &days {
         text += &format!("| `{name}` | {} | {shows} |\n", input.lines().count().saturating_sub(1));
     }
-    text +=
-        "\n| step | 0 | 1 | 2 | 3 | 4 | 5 | 6 | 7 | 8 | 9 |\n|---|---|---|---|---|---|---|---|---|---|---|\n";
+    let heads = REFUSALS.map(|r| format!(" {r} |")).concat();
+    text += &format!("\n| step |{heads}\n|---|{}\n", REFUSALS.map(|_| "---|").concat());
     for (word, cells) in coverage(&days) {
         let cells = cells.map(|c| c.map_or("-".into(), |name| format!("`{name}`")));
         text += &format!("| `{word}` | {} |\n", cells.join(" | "));

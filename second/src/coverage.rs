@@ -6,20 +6,28 @@ use crate::store::{Step, Store};
 use crate::superblock::Superblock;
 use crate::Refusal;
 
-/// Each step's word, and the refusals that a trace can show of it; 0 is taken.
+/// The refusals that have a column; 0 is taken.
+pub const REFUSALS: [u8; 10] = [0, 1, 2, 3, 4, 5, 6, 7, 8, 9];
+
+/// Each step's word, and the refusals that a trace can show of it.
 #[rustfmt::skip]
-pub const STEPS: [(&str, &str); 23] = [
-    ("wj", "0235689"), ("aj", "025"), ("cl", "0236"), ("co", "0236"), ("ac", "0256"), ("rs", "023456"),
-    ("as", "0245"), ("xs", "0245"), ("rj", "023456"), ("ar", "0256"), ("xr", "025"), ("f1", "0236"),
-    ("f2", "0236"), ("freeze", "0236"), ("loc", "02346"), ("add", "023468"), ("replay", "02346"),
-    ("push", "0258"), ("pop", "0256"), ("noop", "02"), ("again", "02346"), ("land", "0246"),
-    ("crash", "02"),
+pub const STEPS: [(&str, &[u8]); 23] = [
+    ("wj", &[0, 2, 3, 5, 6, 8, 9]), ("aj", &[0, 2, 5]), ("cl", &[0, 2, 3, 6]), ("co", &[0, 2, 3, 6]),
+    ("ac", &[0, 2, 5, 6]), ("rs", &[0, 2, 3, 4, 5, 6]), ("as", &[0, 2, 4, 5]), ("xs", &[0, 2, 4, 5]),
+    ("rj", &[0, 2, 3, 4, 5, 6]), ("ar", &[0, 2, 5, 6]), ("xr", &[0, 2, 5]), ("f1", &[0, 2, 3, 6]),
+    ("f2", &[0, 2, 3, 6, 7]), ("freeze", &[0, 2, 3, 6]), ("loc", &[0, 2, 3, 4, 6]), ("add", &[0, 2, 3, 4, 6, 8]),
+    ("replay", &[0, 2, 3, 4, 6]), ("push", &[0, 2, 5, 8]), ("pop", &[0, 2, 5, 6]), ("noop", &[0, 2]),
+    ("again", &[0, 2, 3, 4, 6]), ("land", &[0, 2, 4, 6]), ("crash", &[0, 2]),
 ];
 
 /// Can a trace show this step with this refusal?
-pub fn possible(word: &str, refusal: usize) -> bool {
-    STEPS.iter().any(|(step, numbers)| *step == word && numbers.contains(&refusal.to_string()))
+pub fn possible(word: &str, refusal: u8) -> bool {
+    STEPS.iter().any(|(step, numbers)| *step == word && numbers.contains(&refusal))
 }
+
+/// What is counted of block lines: those that say what a block holds, and those behind the first step.
+pub const BLOCK_LINES: [&str; 2] =
+    ["a block line says what the first disk holds", "a block line behind the first step isn't one"];
 
 /// A situation's name, and how a step is told to be in it.
 type Situation = (&'static str, fn(&Seen) -> bool);
@@ -84,8 +92,9 @@ fn pending_bytes(r: &Ready) -> usize {
     r.pending().map(Vec::len).sum()
 }
 
-/// One step, with the store before it and after it.
+/// One step, with the store before it and after it, and the day's first.
 pub struct Seen<'a> {
+    pub first: &'a Store,
     pub before: &'a Store,
     pub step: &'a Step,
     pub result: Result<(), Refusal>,

@@ -35,7 +35,7 @@ struct Request {
 pub struct Covered {
     /// A first disk without a ledger can't be loaded: no commit, no landing.
     ledger: Option<Ledger>,
-    /// What the crash left.
+    /// What the crash left, at first what the disk holds.
     kept: Vec<Entry>,
     added: Vec<Entry>,
     /// By first landings of location commits.
@@ -46,9 +46,14 @@ pub struct Covered {
     pub reached: [u64; 5],
 }
 
+fn kept(ledger: &Option<Ledger>) -> Vec<Entry> {
+    ledger.iter().flat_map(Ledger::entries).cloned().collect()
+}
+
 impl Covered {
     pub fn new(ledger: Option<Ledger>) -> Self {
-        Covered { ledger, ..Covered::default() }
+        let kept = kept(&ledger);
+        Covered { ledger, kept, ..Covered::default() }
     }
 
     /// Takes a step with its answer, and how many requests are then at State1, State2 and State3; says what
@@ -80,7 +85,7 @@ impl Covered {
     }
 
     fn crash(&mut self) {
-        self.kept = self.ledger.iter().flat_map(Ledger::entries).cloned().collect();
+        self.kept = kept(&self.ledger);
         self.added.clear();
         self.dropped.clear();
         self.requests.clear();

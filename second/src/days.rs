@@ -137,12 +137,13 @@ impl Day {
     pub fn new(seed: u64, options: Options) -> Self {
         let mut rng = Rng::new(seed);
         let (g, slots) = first_disk(&mut rng, options.ill);
+        let store = Store::new(g, slots);
         Day {
             rng,
             options,
             first: Some(disk_line(g, &slots)),
-            store: Store::new(g, slots),
-            ledger: Ledger::new(g, slots),
+            ledger: Ledger::new(&store),
+            store,
             mood: if g.n() > 16 { (Mood::Hoard, 120) } else { (Mood::Steady, 10) },
             script: VecDeque::new(),
             left: options.steps,

@@ -47,15 +47,22 @@ impl Journal {
         Journal { blocks: vec![[0; BLOCK]; n], marks: vec![false; n] }
     }
 
-    fn readable(&self, g: Geometry, i: Interval) -> bool {
+    /// A block as it was written before: these bytes, zeros behind them, and readable.
+    pub fn put(&mut self, block: usize, bytes: &[u8]) {
+        self.blocks[block] = [0; BLOCK];
+        self.blocks[block][..bytes.len()].copy_from_slice(bytes);
+        self.marks[block] = true;
+    }
+
+    pub fn readable(&self, g: Geometry, i: Interval) -> bool {
         g.ring(i).all(|b| self.marks[b])
     }
 
-    fn slice(&self, g: Geometry, i: Interval) -> Vec<u8> {
+    pub fn slice(&self, g: Geometry, i: Interval) -> Vec<u8> {
         g.ring(i).flat_map(|b| self.blocks[b]).collect()
     }
 
-    fn splice(&mut self, g: Geometry, i: Interval, bytes: &[u8]) {
+    pub fn splice(&mut self, g: Geometry, i: Interval, bytes: &[u8]) {
         for (b, block) in g.ring(i).zip(bytes.chunks_exact(BLOCK)) {
             self.blocks[b].copy_from_slice(block);
             self.marks[b] = true;

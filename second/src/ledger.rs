@@ -1,9 +1,11 @@
 //! The ledger: what a loaded store must show, from the first disk, the steps and which of
-//! them were refused. It knows no slot and no block index.
+//! them were refused. Once it has begun with what the disk's selected journal holds, it knows no slot and no
+//! block index.
 
-use crate::layout::{Geometry, Location};
+use crate::layout::{Geometry, Interval, Location};
 use crate::machine::{Advance, Phase};
 use crate::range::{self, Entry};
+use crate::sound;
 use crate::store::{Step, Store};
 use crate::superblock::Superblock;
 
@@ -34,19 +36,17 @@ fn blocks(ranges: &[Vec<Entry>]) -> u64 {
 }
 
 impl Ledger {
-    /// None where a superblock is ill-formed or the selected journal isn't empty.
-    pub fn new(geometry: Geometry, slots: [Superblock; 2]) -> Option<Self> {
-        let first = slots[Superblock::select(&slots)];
-        let sound = slots.iter().all(|s| s.well_formed(geometry));
-        (sound && first.len == 0).then(|| Ledger {
-            geometry,
-            counter: first.counter,
-            start: first.start,
-            table: first.table,
-            ranges: vec![],
-            draft: Draft::default(),
-            commit: None,
-        })
+    /// Of a first store. None where nothing can be loaded: a superblock is ill-formed, or the selected journal
+    /// can't be read or doesn't parse.
+    pub fn new(first: &Store) -> Option<Self> {
+        let (geometry, journal) = (first.geometry, &first.disk.journal);
+        let slots = sound::slots(first).filter(|slots| slots.iter().all(|s| s.well_formed(geometry)))?;
+        let Superblock { counter, start, len, table } = slots[Superblock::select(&slots)];
+        let stored = Interval::new(start, len);
+        let bytes = journal.readable(geometry, stored).then(|| journal.slice(geometry, stored))?;
+        let ranges = range::read_ranges(&bytes)?;
+        let draft = Draft { ranges: ranges.clone(), ..Draft::default() };
+        Some(Ledger { geometry, counter, start, table, ranges, draft, commit: None })
     }
 
     pub fn len(&self) -> u64 {

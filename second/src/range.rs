@@ -49,13 +49,18 @@ fn read_one(bytes: &[u8]) -> Option<(Vec<Entry>, &[u8])> {
     sound.then_some((entries, rest))
 }
 
-/// All entries of ranges one after another, to the last byte.
-pub fn read(mut bytes: &[u8]) -> Option<Vec<Entry>> {
+/// Ranges one after another, to the last byte.
+pub fn read_ranges(mut bytes: &[u8]) -> Option<Vec<Vec<Entry>>> {
     let mut all = Vec::new();
     while !bytes.is_empty() {
         let (entries, rest) = read_one(bytes)?;
-        all.extend(entries);
+        all.push(entries);
         bytes = rest;
     }
     Some(all)
+}
+
+/// All their entries.
+pub fn read(bytes: &[u8]) -> Option<Vec<Entry>> {
+    read_ranges(bytes).map(|ranges| ranges.concat())
 }

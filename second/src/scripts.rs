@@ -150,6 +150,35 @@ pub(crate) const DAYS: &[Script] = &[
 ("crash-while-loading", "a crash at each point of a load: reads are forgotten and their ids free", "
     @brew, @load, add 41, wj 1, aj 1, cl 2, land 1, crash, rs 0 1, crash, as 0 1 =5, rs 0 1, rs 1 2, as 0 1, crash
     @superblocks, rj 0 1, crash, ar 1 =5, @superblocks, rj 0 1, ar 1, crash, @front, crash, @front, replay 41"),
+// Disks that were written before.
+("stored-two-pieces", "a disk from before, its journal round the ring's end: two ranges back to back, the second of two blocks, of which the back one is zeros alone; a range joins them", "
+    disk 4 4096 0 2 3 24576 4096 0 0 0 24576 4096, block 2 0100+0200+0102+41+0000, block 3 0200+1000+ff*16, block 0
+    @superblocks, rj 0 3, rj 1 4, ar 4, f2 =6, xr 3, rj 0 3, ar 3, f2, replay 41 00 =6, replay 41 0000, replay 00*255*16
+    add 43, wj 5, aj 5, cl 6, land 1, ac 6, crash, @pieces, replay 41 0000, replay 00*254 =6, replay 00*255*16, replay 43"),
+("stored-elsewhere", "blocks outside of the selected journal may hold anything, the other slot's too: they aren't read, and a write goes over them", "
+    disk 8 4096 1 7 1 40960 4096 0 0 3 40960 4096, block 7 0100+0100+01+41, block 0 ff*4096, block 1 00, block 2 4142, block 5
+    @front, replay 41, add #15x255 #1x252, wj 1, aj 1, add 42, wj 1, aj 1, cl 2, land 1, ac 2, crash, @pieces, replay 41, replay #15x255 #1x252, replay 42"),
+("stored-damaged", "a stored range with a byte behind its bodies that isn't 0: `f2` is a 7 as often as it is asked, behind the 6 of a piece that isn't in; the piece stays, and a crash mends nothing", "
+    disk 8 4096 0 0 2 40960 4096 0 0 0 40960 4096, block 0 0100+0100+01+41, block 1 0100+0100+01+42+01
+    @superblocks, f2 =6, rj 0 3, f2 =6, xr 3, f2 =6, rj 0 3, ar 3, f2 =7, f2 =7, rj 0 3 =6, ar 3 =5, xr 3 =5, replay 41 =3, add 43 =3, push 9, noop, f2 =7
+    crash, @superblocks, rj 0 3, ar 3, f2 =7, crash"),
+("stored-damaged-piece", "the same where the damaged byte, a length of 0, is in the back piece", "
+    disk 4 4096 0 3 2 24576 4096 0 0 0 24576 4096, block 3 0100+0100+01+41, block 0 0100+0200+0100+41, @superblocks, rj 0 3, rj 1 4, ar 3, f2 =6, ar 4, f2 =7, f2 =7"),
+("stored-zeros", "a block of zeros alone is no range: 7", "
+    disk 8 4096 0 0 1 40960 4096 0 0 0 40960 4096, block 0, @superblocks, rj 0 3, ar 3, f2 =7"),
+("stored-no-entry", "a range of no entry: 7", "
+    disk 8 4096 0 0 1 40960 4096 0 0 0 40960 4096, block 0 0100+0000, @superblocks, rj 0 3, ar 3, f2 =7"),
+("stored-block-too-many", "a range of two blocks where one would do: 7", "
+    disk 8 4096 0 0 2 40960 4096 0 0 0 40960 4096, block 0 0200+0100+01+41, block 1, @superblocks, rj 0 3, ar 3, f2 =7"),
+("stored-cut", "a range of two blocks in a journal of one: 7, though the block behind it holds its rest", "
+    disk 8 4096 0 0 1 40960 4096 0 0 0 40960 4096, block 0 0200+1000+ff*16+41*4076, block 1 41*4, @superblocks, rj 0 3, ar 3, f2 =7"),
+("stored-unreadable", "a block of the selected journal without a line: its mark is 0, and a whole answer is a 6", "
+    disk 8 4096 0 0 2 40960 4096 0 0 0 40960 4096, block 0 0100+0100+01+41, @superblocks, rj 0 3, ar 3 =6, xr 3, rj 0 3, ar 3 =6, f2 =6, crash"),
+("stored-spelling", "what a `block` line is and what it isn't; of two for one block the later counts; lines that aren't steps don't end their time, and a step does, a refused one too", "
+    @brew, ? block, ? block 8, ? block 8 41, ? block 18446744073709551616 41, ? block -1 41, ? block x, ? block 0x1 41, ? block41 0, ? blocks 0 41, ? Block 0 41, ? BLOCK 0
+    ? block 0 4, ? block 0 414, ? block 0 4g, ? block 0 0x41, ? block 0 41 42, ? block 0 41 ;, ? block 0 00*4097, ? block 0 41 ^16385, ?, ? brew, ? add 4, ? disk 8 4096
+    block 0 41, block 0 42+43, block 1 44+45, block 1, \tblock  002\x0caB+Cd\r, block 3 ff*4096, block 00000000000000000000000000000000000004 00, block 5 \t, block 6 41 ^16384, ? block 8
+    block 7, f1 =6, ? block 0 46, ? block 7, rs 0 1, ? block 0 46, crash, ? block 0 46, ? block 8, noop"),
 // Disks and lines.
 ("smallest-disk", "N = 1 and T = 1", "
     disk 1 1 0 0 0 12288 1 0 0 0 12289 1, @load, add 41, wj 1, aj 1, add 42, wj 1 =8, freeze, loc 12289 2 =4, loc 12289 1, cl 2 =6, crash

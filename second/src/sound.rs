@@ -97,7 +97,8 @@ pub fn system(store: &Store) -> bool {
         && Awaited::by(&store.machine, g) == Awaited::at(held)
 }
 
-fn slots(store: &Store) -> Option<[Superblock; 2]> {
+/// Both superblocks.
+pub fn slots(store: &Store) -> Option<[Superblock; 2]> {
     let [one, two] = store.disk.slots;
     Some([one?, two?])
 }

@@ -5,12 +5,13 @@ mod covered;
 mod handed;
 mod sector;
 mod sectors;
+mod stored;
 mod sync;
 
 use std::fs;
 use std::path::Path;
 
-use crate::coverage::possible;
+use crate::coverage::{possible, REFUSALS};
 use crate::days::{Day, Options, Rng};
 use crate::disk::{Disk, Journal, Op};
 use crate::layout::{Geometry, Interval, Location, BLOCK};
@@ -19,7 +20,7 @@ use crate::machine::{Phase, Piece, Ready, Slot};
 use crate::range::{self, Entry};
 use crate::store::{Step, Store};
 use crate::superblock::Superblock;
-use crate::text::{parse_disk, parse_step, LONGEST_LINE};
+use crate::text::{parse_step, LONGEST_LINE};
 use crate::{conformance, handed_conformance, sector_conformance, sound, trace, Refusal};
 
 fn g() -> Geometry {
@@ -38,6 +39,12 @@ fn select(a: u64, b: u64) -> usize {
 fn play(store: &mut Store, day: &str) -> Vec<u8> {
     let steps = day.split(',').map(|line| parse_step(line.as_bytes()).expect("a step"));
     steps.map(|s| store.step(&s).err().map_or(0, Refusal::number)).collect()
+}
+
+/// A random day's first store, and its lines, of which those that are steps are played on it.
+fn random_day(seed: u64) -> (Store, Vec<String>) {
+    let lines: Vec<String> = Day::new(seed, Options { steps: 300, ledger: false, ill: false }).collect();
+    (trace::first_store(&lines).expect("a disk"), lines)
 }
 
 const LOAD: &str = "rs 0 1, rs 1 2, as 0 1, as 1 2, f1, f2";
@@ -326,11 +333,10 @@ fn loads_show_the_ledger() {
     let mut pictured = 0;
     for seed in 1..=300 {
         let mut rng = Rng::new(seed ^ 0xb4e3);
-        let mut day = Day::new(seed, Options { steps: 300, ledger: false, ill: false });
-        let (g, slots) = parse_disk(day.next().unwrap().as_bytes()).unwrap();
-        let Some(mut ledger) = Ledger::new(g, slots) else { continue };
-        let mut store = Store::new(g, slots);
-        for (n, line) in (1..).zip(day) {
+        let (mut store, day) = random_day(seed);
+        let g = store.geometry;
+        let Some(mut ledger) = Ledger::new(&store) else { continue };
+        for (n, line) in (0..).zip(day) {
             let Some(step) = parse_step(line.as_bytes()) else { continue };
             assert_eq!(parse_step(step.to_string().as_bytes()).as_ref(), Some(&step));
             let before = store.clone();
@@ -358,8 +364,8 @@ fn loads_show_the_ledger() {
 #[test]
 fn conformance_covers() {
     for (word, cells) in conformance::coverage(&conformance::days()) {
-        for (refusal, day) in cells.iter().enumerate() {
-            assert_eq!(day.is_some(), possible(word, refusal), "{word} refused by {refusal}: {day:?}");
+        for (refusal, day) in REFUSALS.iter().zip(cells) {
+            assert_eq!(day.is_some(), possible(word, *refusal), "{word} refused by {refusal}: {day:?}");
         }
     }
 }

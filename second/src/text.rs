@@ -1,8 +1,8 @@
-//! A day's lines: the first disk and the steps, as text.
+//! A day's lines: the first disk, what its blocks hold, and the steps, as text.
 
 use std::fmt;
 
-use crate::layout::{Geometry, Location};
+use crate::layout::{Geometry, Location, BLOCK};
 use crate::range::Entry;
 use crate::store::Step;
 use crate::superblock::Superblock;
@@ -10,7 +10,7 @@ use crate::superblock::Superblock;
 /// The most blocks a trace's disk may have.
 pub const MAX_BLOCKS: u64 = 32;
 
-/// The longest line that is a disk or a step, without its line feed.
+/// The longest line that is a disk, a block or a step, without its line feed.
 pub const LONGEST_LINE: usize = 16_384;
 
 /// A line's words: blanks between them are spaces, tabs, form feeds and carriage returns.
@@ -18,7 +18,7 @@ pub fn words(line: &[u8]) -> Option<std::str::SplitAsciiWhitespace<'_>> {
     std::str::from_utf8(line).ok().map(str::split_ascii_whitespace)
 }
 
-/// The words of a line that isn't too long for a disk or a step.
+/// The words of a line that isn't too long for a disk, a block or a step.
 fn short_words(line: &[u8]) -> Option<std::str::SplitAsciiWhitespace<'_>> {
     words(line).filter(|_| line.len() <= LONGEST_LINE)
 }
@@ -54,6 +54,22 @@ pub fn parse_disk(line: &[u8]) -> Option<(Geometry, [Superblock; 2])> {
 pub fn disk_line(g: Geometry, slots: &[Superblock; 2]) -> String {
     let numbers = slots.iter().flat_map(Superblock::numbers);
     numbers.fold(format!("disk {} {}", g.n(), g.t()), |line, x| format!("{line} {x}"))
+}
+
+/// `block k`, below N, and what it holds: up to a block's bytes, none where the word is missing.
+fn parse_block(line: &[u8], n: u64) -> Option<(usize, Vec<u8>)> {
+    let mut words = short_words(line)?;
+    if words.next()? != "block" {
+        return None;
+    }
+    let k = number(words.next()?).filter(|k| *k < n)?;
+    let bytes = entry(words.next().unwrap_or_default()).filter(|bytes| bytes.len() <= BLOCK)?;
+    words.next().is_none().then_some((k as usize, bytes))
+}
+
+pub fn block_line(k: usize, bytes: &[u8]) -> String {
+    let word = if bytes.is_empty() { String::new() } else { entries_line(&[bytes.to_vec()]) };
+    format!("block {k}{word}")
 }
 
 /// Each entry's bytes as hexadecimal digits, a space before each entry.
@@ -97,6 +113,41 @@ pub fn parse_step(line: &[u8]) -> Option<Step> {
         ("crash", []) => Step::Crash,
         _ => return None,
     })
+}
+
+/// What a line behind the disk's is.
+#[derive(Clone, Debug, PartialEq, Eq)]
+pub enum Line {
+    /// A block, and the bytes that it begins with.
+    Block(usize, Vec<u8>),
+    /// A block line behind the first step: not a step.
+    Late,
+    Step(Step),
+    Other,
+}
+
+/// Reads the lines behind the disk's: block lines up to the first step, whether taken or refused.
+pub struct Reader {
+    n: u64,
+    begun: bool,
+}
+
+impl Reader {
+    pub fn new(geometry: Geometry) -> Self {
+        Reader { n: geometry.n(), begun: false }
+    }
+
+    pub fn read(&mut self, line: &[u8]) -> Line {
+        if let Some(step) = parse_step(line) {
+            self.begun = true;
+            return Line::Step(step);
+        }
+        match parse_block(line, self.n) {
+            Some(_) if self.begun => Line::Late,
+            Some((k, bytes)) => Line::Block(k, bytes),
+            None => Line::Other,
+        }
+    }
 }
 
 impl Step {

@@ -7,7 +7,7 @@ use crate::machine::{Phase, Piece};
 use crate::range::Entry;
 use crate::store::Store;
 use crate::superblock::Superblock;
-use crate::text::{parse_disk, parse_step, LONGEST_LINE};
+use crate::text::{parse_disk, Line, Reader, LONGEST_LINE};
 use crate::Refusal;
 
 pub const HEADER: &str = "n r k c s l w z f p m o y q1 q2 q3 h";
@@ -113,6 +113,21 @@ fn next_line<'a>(input: &mut impl BufRead, line: &'a mut Vec<u8>) -> io::Result<
     Ok(Some(line))
 }
 
+/// The store that a day's first step finds: its disk, with the blocks that the lines before that step give.
+pub fn first_store<L: AsRef<[u8]>>(lines: impl IntoIterator<Item = L>) -> Option<Store> {
+    let mut lines = lines.into_iter();
+    let (geometry, slots) = parse_disk(lines.next()?.as_ref())?;
+    let (mut store, mut reader) = (Store::new(geometry, slots), Reader::new(geometry));
+    for line in lines {
+        match reader.read(line.as_ref()) {
+            Line::Block(k, bytes) => store.disk.journal.put(k, &bytes),
+            Line::Step(_) => break,
+            Line::Late | Line::Other => {}
+        }
+    }
+    Some(store)
+}
+
 /// Plays a day, line by line; rows go out as soon as no more input is at hand.
 /// False where the first line isn't a disk.
 pub fn run(input: impl Read, output: impl Write) -> io::Result<bool> {
@@ -123,19 +138,20 @@ pub fn run(input: impl Read, output: impl Write) -> io::Result<bool> {
         writeln!(output, "line 0 is not a disk")?;
         return output.flush().map(|()| false);
     };
-    let mut store = Store::new(geometry, slots);
+    let (mut store, mut reader) = (Store::new(geometry, slots), Reader::new(geometry));
     writeln!(output, "{HEADER}")?;
     for n in 1.. {
         if input.buffer().is_empty() {
             output.flush()?;
         }
         let Some(line) = next_line(&mut input, &mut line)? else { break };
-        match parse_step(line) {
-            Some(step) => {
+        match reader.read(line) {
+            Line::Block(k, bytes) => store.disk.journal.put(k, &bytes),
+            Line::Step(step) => {
                 let result = store.step(&step);
                 writeln!(output, "{}", row(n, result, &store))?;
             }
-            None => writeln!(output, "line {n} is not a step")?,
+            Line::Late | Line::Other => writeln!(output, "line {n} is not a step")?,
         }
     }
     output.flush().map(|()| true)

@@ -10,14 +10,15 @@ use std::sync::atomic::{AtomicU64, Ordering};
 use std::sync::Mutex;
 use std::time::Instant;
 
-use second::coverage::{Seen, SITUATIONS, STEPS};
+use second::coverage::{Seen, BLOCK_LINES, REFUSALS, SITUATIONS, STEPS};
 use second::covered::{Covered, REACHED};
 use second::days::{Day, Options};
 use second::layout::Location;
 use second::ledger::Ledger;
 use second::range::{valid_entry, Entry};
 use second::store::{Step, Store};
-use second::text::{parse_disk, parse_step};
+use second::text::{Line, Reader};
+use second::trace::first_store;
 
 const USAGE: &str = "compare [--seeds FIRST LAST] [--steps K] [--plain] [--ill] [PROGRAM [PROGRAM]]";
 
@@ -93,8 +94,8 @@ struct Audit {
 }
 
 impl Audit {
-    fn new(disk: &str) -> Self {
-        let ledger = parse_disk(disk.as_bytes()).and_then(|(g, slots)| Ledger::new(g, slots));
+    fn new(first: &Store) -> Self {
+        let ledger = Ledger::new(first);
         Audit { covered: Covered::new(ledger.clone()), ledger, loaded: None, loads: 0 }
     }
 
@@ -113,7 +114,10 @@ impl Audit {
 
     /// What a load shows, and the steps after it that tell more of it.
     fn shown(&mut self, step: &Step, taken: bool, row: [&str; 5]) -> Result<(), String> {
-        let Some(ledger) = &mut self.ledger else { return Ok(()) };
+        let Some(ledger) = &mut self.ledger else {
+            let loads = taken && *step == Step::FinishJournal;
+            return if loads { Err("by the first disk nothing can be loaded".into()) } else { Ok(()) };
+        };
         ledger.feed(step, !taken);
         match (step, &mut self.loaded) {
             (Step::Crash, _) if taken => self.loaded = None,
@@ -175,61 +179,98 @@ fn day(seed: u64, arguments: &Arguments) -> Result<Totals, String> {
         .map(|p| play(p, &text))
         .collect::<Result<_, _>>()
         .map_err(|e| format!("seed {seed}: {e}"))?;
-    let mut totals = Totals { days: 1, ..Totals::default() };
-    let mut audits: Vec<Audit> = played.iter().map(|_| Audit::new(&lines[0])).collect();
-    let (g, slots) = parse_disk(lines[0].as_bytes()).ok_or("the day has no disk")?;
-    let mut store = Store::new(g, slots);
+    let mut store = first_store(&lines).ok_or("the day has no disk")?;
+    let mut judge = Judge::new(&store, played.len());
+    // A block line has no row: from then on a line's row isn't the one of its number.
+    let mut shown = 0;
     for (n, line) in lines.iter().enumerate() {
-        let rows: Vec<&str> = played.iter().map(|p| p.get(n).map_or("no row", |r| r)).collect();
-        let report = |what: String| {
+        let read = (n > 0).then(|| judge.reader.read(line.as_bytes()));
+        if let Some(Line::Block(..)) = read {
+            judge.totals.situation(BLOCK_LINES[0]);
+            continue;
+        }
+        let rows: Vec<&str> = played.iter().map(|p| p.get(shown).map_or("no row", |r| r)).collect();
+        shown += 1;
+        judge.line(n, read, &rows, &mut store).map_err(|what| {
             let rows = arguments.programs.iter().zip(&rows).map(|(p, r)| format!("\n  {p}\n    {r}"));
             let line = if line.len() > 300 { format!("{}..", &line[..300]) } else { line.clone() };
             format!("seed {seed}, step {n}: {line}\n  {what}{}", rows.collect::<String>())
-        };
-        if rows.iter().any(|r| *r != rows[0] || *r == "no row") {
-            return Err(report("the rows differ".into()));
-        }
-        totals.rows += 1;
-        if n == 0 {
-            continue;
-        }
-        let Some(step) = parse_step(line.as_bytes()) else {
-            if rows[0] != format!("line {n} is not a step") {
-                return Err(report("this line is not a step".into()));
-            }
-            *totals.met.entry(("no step", "-".into())).or_default() += 1;
-            continue;
-        };
-        totals.count(&step, rows[0], &mut store);
-        for (audit, row) in audits.iter_mut().zip(&rows) {
-            audit.feed(&step, row).map_err(report)?;
-        }
+        })?;
     }
-    if let Some(p) = played.iter().position(|p| p.len() > lines.len()) {
+    if let Some(p) = played.iter().position(|p| p.len() > shown) {
         return Err(format!("seed {seed}: {} has rows after the day's end", arguments.programs[p]));
     }
-    totals.loads = audits.iter().map(|a| a.loads).sum();
-    let reached = audits.first().map_or([0; REACHED.len()], |a| a.covered.reached);
-    totals.situations.extend(REACHED.into_iter().zip(reached).filter(|(_, count)| *count > 0));
-    Ok(totals)
+    Ok(judge.counts())
+}
+
+/// What is known while a day's rows are gone through.
+struct Judge {
+    first: Store,
+    reader: Reader,
+    audits: Vec<Audit>,
+    totals: Totals,
+}
+
+impl Judge {
+    fn new(first: &Store, programs: usize) -> Self {
+        Judge {
+            first: first.clone(),
+            reader: Reader::new(first.geometry),
+            audits: (0..programs).map(|_| Audit::new(first)).collect(),
+            totals: Totals { days: 1, ..Totals::default() },
+        }
+    }
+
+    /// A line that has a row, with the rows of all programs; the disk's is the header.
+    fn line(&mut self, n: usize, read: Option<Line>, rows: &[&str], store: &mut Store) -> Result<(), String> {
+        if rows.iter().any(|r| *r != rows[0] || *r == "no row") {
+            return Err("the rows differ".into());
+        }
+        self.totals.rows += 1;
+        let step = match read {
+            None => return Ok(()),
+            Some(Line::Step(step)) => step,
+            Some(other) => {
+                if rows[0] != format!("line {n} is not a step") {
+                    return Err("this line is not a step".into());
+                }
+                *self.totals.met.entry(("no step", "-".into())).or_default() += 1;
+                if other == Line::Late {
+                    self.totals.situation(BLOCK_LINES[1]);
+                }
+                return Ok(());
+            }
+        };
+        self.totals.count(&self.first, &step, rows[0], store);
+        self.audits.iter_mut().zip(rows).try_for_each(|(audit, row)| audit.feed(&step, row))
+    }
+
+    fn counts(mut self) -> Totals {
+        self.totals.loads = self.audits.iter().map(|a| a.loads).sum();
+        let reached = self.audits.first().map_or([0; REACHED.len()], |a| a.covered.reached);
+        self.totals.situations.extend(REACHED.into_iter().zip(reached).filter(|(_, count)| *count > 0));
+        self.totals
+    }
 }
 
 /// What is counted beside steps and refusals.
 fn situations() -> impl Iterator<Item = &'static str> {
-    SITUATIONS.iter().map(|(name, _)| *name).chain(REACHED)
+    SITUATIONS.iter().map(|(name, _)| *name).chain(BLOCK_LINES).chain(REACHED)
 }
 
 impl Totals {
+    fn situation(&mut self, name: &'static str) {
+        *self.situations.entry(name).or_default() += 1;
+    }
+
     /// Counts a step by its row's refusal, and the situations that a store of ours is in with it.
-    fn count(&mut self, step: &Step, row: &str, store: &mut Store) {
+    fn count(&mut self, first: &Store, step: &Step, row: &str, store: &mut Store) {
         let refusal = row.split(' ').nth(1).unwrap_or("-").to_string();
         *self.met.entry((step.word(), refusal)).or_default() += 1;
         let before = store.clone();
         let result = store.step(step);
-        let seen = Seen { before: &before, step, result, after: store };
-        for (name, _) in SITUATIONS.iter().filter(|(_, holds)| holds(&seen)) {
-            *self.situations.entry(name).or_default() += 1;
-        }
+        let seen = Seen { first, before: &before, step, result, after: store };
+        SITUATIONS.iter().filter(|(_, holds)| holds(&seen)).for_each(|(name, _)| self.situation(name));
     }
 
     fn add(&mut self, other: Totals) {
@@ -250,7 +291,7 @@ impl Totals {
             let here = self.met.iter().filter(|((w, n), _)| (word == "all" || *w == word) && n == r);
             here.map(|(_, count)| count).sum::<u64>()
         };
-        let refusals: Vec<String> = (0..=9).map(|r| r.to_string()).chain(["-".into()]).collect();
+        let refusals: Vec<String> = REFUSALS.iter().map(u8::to_string).chain(["-".into()]).collect();
         println!("{:>8}{}", "step", refusals.iter().map(|r| format!(" {r:>8}")).collect::<String>());
         for word in STEPS.iter().map(|(word, _)| *word).chain(["no step", "all"]) {
             let counts = refusals.iter().map(|r| format!(" {:>8}", count(word, r)));
@@ -264,7 +305,7 @@ impl Totals {
 
     /// What these days could have met and didn't.
     fn missing(&self) -> Vec<String> {
-        let steps = STEPS.iter().flat_map(|(word, numbers)| numbers.chars().map(|r| (*word, r.to_string())));
+        let steps = STEPS.iter().flat_map(|(word, numbers)| numbers.iter().map(|r| (*word, r.to_string())));
         let steps = steps.filter(|key| !self.met.contains_key(key)).map(|(word, r)| format!("{word} {r}"));
         let situations = situations().filter(|name| !self.situations.contains_key(name)).map(String::from);
         steps.chain(situations).collect()

@@ -1,20 +1,18 @@
 //! Document 02's S-2 on random days: no request reaches State1 uncovered, and stores with wrong rules are told.
 
-use super::{g, superblock, LOAD};
+use super::{g, random_day, superblock, LOAD};
 use crate::covered::{Covered, REACHED};
-use crate::days::{Day, Options};
 use crate::ledger::Ledger;
 use crate::machine::Sync;
 use crate::store::{Step, Store};
-use crate::text::{parse_disk, parse_step};
+use crate::text::parse_step;
 
 /// A wrong rule: what it does to the requests beside a step that was taken.
 type Wrong = fn(&mut Store, &Step);
 
 /// Plays lines on a store with this rule; what reached State1, or the line that breaks the claim.
 fn played(lines: impl Iterator<Item = String>, mut store: Store, wrong: Wrong) -> Result<[u64; 5], String> {
-    let slots = store.disk.slots.map(|s| s.expect("a first disk has both"));
-    let mut covered = Covered::new(Ledger::new(store.geometry, slots));
+    let mut covered = Covered::new(Ledger::new(&store));
     for (n, line) in (1..).zip(lines) {
         let Some(step) = parse_step(line.as_bytes()) else { continue };
         let result = store.step(&step);
@@ -28,9 +26,8 @@ fn played(lines: impl Iterator<Item = String>, mut store: Store, wrong: Wrong) -
 }
 
 fn random(seed: u64, wrong: Wrong) -> Result<[u64; 5], String> {
-    let mut day = Day::new(seed, Options { steps: 300, ledger: false, ill: false });
-    let (g, slots) = parse_disk(day.next().unwrap().as_bytes()).unwrap();
-    played(day, Store::new(g, slots), wrong)
+    let (store, day) = random_day(seed);
+    played(day.into_iter().skip(1), store, wrong)
 }
 
 fn by_hand(day: &str, wrong: Wrong) -> Result<[u64; 5], String> {
@@ -84,10 +81,8 @@ fn random_days() {
 #[test]
 fn they_move_in_the_order_of_pushes() {
     for seed in 1..=100 {
-        let mut day = Day::new(seed, Options { steps: 300, ledger: false, ill: false });
-        let (g, slots) = parse_disk(day.next().unwrap().as_bytes()).unwrap();
-        let (mut store, mut pushed) = (Store::new(g, slots), vec![]);
-        for step in day.filter_map(|line| parse_step(line.as_bytes())) {
+        let ((mut store, day), mut pushed) = (random_day(seed), vec![]);
+        for step in day.iter().filter_map(|line| parse_step(line.as_bytes())) {
             match (store.step(&step), &step) {
                 (Ok(()), Step::Push { id }) => pushed.push(*id),
                 (Ok(()), Step::Pop { id }) => pushed.retain(|p| p != id),

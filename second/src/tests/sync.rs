@@ -1,10 +1,9 @@
 //! Sync requests: what moves them from State3 by State2 to State1, and what leaves them.
 
-use super::{loaded, play};
+use super::{loaded, play, random_day};
 use crate::coverage::{Seen, SITUATIONS};
-use crate::days::{Day, Options};
 use crate::store::Store;
-use crate::text::{parse_disk, parse_step};
+use crate::text::parse_step;
 
 /// Plays lines that are taken; how many requests are then at State1, State2 and State3.
 fn taken(store: &mut Store, day: &str) -> Vec<[usize; 3]> {
@@ -94,13 +93,12 @@ fn random_days_meet_these_commits() {
     let mut met = [0; 3];
     assert_eq!(situations.len(), met.len());
     for seed in 1..=100 {
-        let mut day = Day::new(seed, Options { steps: 300, ledger: false, ill: false });
-        let (g, slots) = parse_disk(day.next().unwrap().as_bytes()).unwrap();
-        let mut store = Store::new(g, slots);
-        for step in day.filter_map(|line| parse_step(line.as_bytes())) {
+        let (first, day) = random_day(seed);
+        let mut store = first.clone();
+        for step in day.iter().filter_map(|line| parse_step(line.as_bytes())) {
             let before = store.clone();
             let result = store.step(&step);
-            let seen = Seen { before: &before, step: &step, result, after: &store };
+            let seen = Seen { first: &first, before: &before, step: &step, result, after: &store };
             met.iter_mut().zip(&situations).for_each(|(count, (_, holds))| *count += u32::from(holds(&seen)));
         }
     }
