@@ -1,6 +1,6 @@
 //! A second supplier's fermentation store: the journal, its commit machine and its disk,
 //! written from document 01 and the five Dafny files alone; its sectors from document 02's S-1, its saves on
-//! an idle store from S-2, its empty intervals from S-3.
+//! an idle store from S-2, its empty intervals from S-3, its blank entries from S-6.
 #![forbid(unsafe_code)]
 
 pub mod conformance;
@@ -33,7 +33,7 @@ pub mod trace;
 #[cfg(test)]
 mod tests;
 
-/// Document 01's questions, and from 10 on a sector's; the one answered no is the refusal.
+/// Document 01's questions, then document 02's: a sector's, and an add's; the one answered no is the refusal.
 #[derive(Clone, Copy, Debug, PartialEq, Eq)]
 pub enum Refusal {
     Sizes = 1,
@@ -51,6 +51,8 @@ pub enum Refusal {
     Zeros = 11,
     /// A sector's check number.
     Check = 12,
+    /// An entry of zeros only, of an add; asked after 4 and before 5.
+    Blank = 13,
 }
 
 impl Refusal {

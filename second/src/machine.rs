@@ -1,4 +1,4 @@
-//! The commit machine (000), with document 01's departures and document 02's S-2.
+//! The commit machine (000), with document 01's departures and document 02's S-2 and S-6.
 
 use std::collections::{BTreeMap, BTreeSet};
 
@@ -217,7 +217,7 @@ impl Machine {
         [Sync::State1, Sync::State2, Sync::State3].map(at)
     }
 
-    /// Questions 3 to 8 in order; on a yes to all, what is asked of the disk.
+    /// Questions 3 to 8 in order, an add's 13 behind 4; on a yes to all, what is asked of the disk.
     pub fn ask(&self, step: &Step) -> Result<Op, Refusal> {
         use Refusal::*;
         let g = self.geometry;
@@ -284,6 +284,8 @@ impl Machine {
             Step::Add(entries) => {
                 let r = self.ready()?;
                 step_entries(entries)?;
+                // Only an add asks it: what was stored or pending earlier is written, loaded and replayed (S-6).
+                ask(!entries.iter().any(range::blank), Blank)?;
                 ask(r.replay_left().is_empty(), Condition)?;
                 let count = r.pending().count() + entries.len();
                 let bytes: usize = r.pending().chain(entries).map(Vec::len).sum();

@@ -12,6 +12,11 @@ pub fn valid_entry(entry: &Entry) -> bool {
     (1..=MAX_ENTRY).contains(&entry.len())
 }
 
+/// Zeros only: a range may hold it, an add brings none (S-6).
+pub fn blank(entry: &Entry) -> bool {
+    entry.iter().all(|&b| b == 0)
+}
+
 /// The fewest blocks that hold the entries.
 pub fn blocks(entries: &[Entry]) -> usize {
     (4 + entries.iter().map(|e| 1 + e.len()).sum::<usize>()).div_ceil(BLOCK)

@@ -82,8 +82,24 @@ pub(crate) const DAYS: &[Script] = &[
     @brew, @load, add 41, freeze, add 42, wj 1, wj 2, add 43, freeze, add 44, freeze, add 45, wj 3, freeze, wj 4
     aj 1, aj 2, aj 3, aj 4, cl 5, land 1, ac 5, crash, @front, replay 41 42 43 44 45"),
 ("add", "`add`: 0 to 16 entries of 1 to 255 bytes; 17 entries or one of 256 bytes (4), replay entries left (6)", "
-    @brew, @load, add, add 41, add 00, add #16x1, add #17x1 =4, add #1x255, add #1x256 =4, add 41 #1x300 =4, add #20x256 =4
-    wj 1, aj 1, cl 2, land 1, ac 2, crash, @front, add 41 =6, add =6, add #17x1 =4, replay 41 00, replay #16x1, add 41 =6, replay #1x255, add 41, crash"),
+    @brew, @load, add, add 41, add 80, add #16x1, add #17x1 =4, add #1x255, add #1x256 =4, add 41 #1x300 =4, add #20x256 =4
+    wj 1, aj 1, cl 2, land 1, ac 2, crash, @front, add 41 =6, add =6, add #17x1 =4, replay 41 80, replay #16x1, add 41 =6, replay #1x255, add 41, crash"),
+("blank-alone", "a blank entry, one of zeros only, added alone: 13, whatever its length; nothing is pending by it, and what was stays", "
+    @brew, @load, add 00 =13, wj 1 =6, add 0000 =13, add 00*254 =13, add 00*255 =13, freeze, add 00 =13, wj 1 =6, add 41, add 00 =13, push 9, freeze, add 00*255 =13, add 42, add 00 =13
+    wj 1, wj 2, aj 1, aj 2, add 00 =13, cl 3, add 00 =13, land 1, add 00 =13, ac 3, pop 9, crash, @front, replay 41 42, add 00 =13"),
+("blank-among", "a blank entry among others, the first, in the middle, the last, all of 16: 13, and none of them is taken; the same without it are", "
+    @brew, @load, add 00 41 =13, add 41 00 42 =13, add 41 42 00 =13, add 41 000000 42 =13, add 00 00 =13, add 00*1*16 =13, add #15x1 00 =13, add 00 #15x1 =13, add #15x255 00*255 =13, wj 1 =6
+    add 41, add 42 00 =13, add 42, wj 1, aj 1, cl 2, land 1, ac 2, crash, @front, replay 41 42 00 =6, replay 41 42, add #7x1 0000 #8x1 =13, add #15x1, wj 1, aj 1"),
+("blank-nearly", "one byte that isn't zero, the first, in the middle, the last, keeps an entry from being blank: taken, stored, loaded and replayed", "
+    @brew, @load, add 01, add 80, add 0100 0001 010000 000100 000001, add 01+00*254, add 00*127+01+00*127 00*254+80, add 00*254+01 00*255 =13, add 00*254+01, wj 1, aj 1, cl 2, land 1, ac 2, crash
+    @front, replay 01 80 0100 0001 010000, replay 000100 000001 01+00*254, replay 00*127+01+00*127 00*255 =6, replay 00*127+01+00*127 00*254+80 00*254+01"),
+("blank-order", "where a 13 stands: after 3 (the wrong kind) and 4 (17 entries, one of 256 bytes), before 6 (replay entries left) and 8 (pending is full); an `add` of none brings none", "
+    @brew, add 00 =3, add 00*256 =3, add 00*1*17 =3, @superblocks, add 00 =3, f2
+    add 00*1*17 =4, add #16x1 00 =4, add 00*256 =4, add 00 00*256 =4, add 41 00 #1x256 =4, add 00 =13, add, add 41, wj 1, aj 1, cl 2, land 1, ac 2, crash
+    @front, add 41 =6, add 00 =13, add 41 00 =13, add 00*1*17 =4, add 00*256 =4, add =6, replay 41, add, add 00 =13
+    @64, @64, @64, @64, @64, @64, @64, @64, @64, @64, @64, @64, @64, @64, @64, @64, add 41 =8, add 00 =13, add 41 00 =13, add 00*1*17 =4, add 00*256 =4, add, freeze, add 41 =8, add 00 =13"),
+("blank-order-bytes", "the same with 65,536 bytes pending", "
+    disk 20 4096 0 0 0 90112 4096 0 0 0 90112 4096, @load, @16320, @16320, @16320, @16320, add #1x255, add #1x2 =8, add 00 =13, add 0000 =13, add #1x2 00 =13, add #1x1, add #1x1 =8, add 00 =13, add 00*255 =13, add #16x255 00 =4, add, wj 1, add 00 =13, add 41"),
 ("pending-entries", "1,024 entries pending, frozen ones included; one more is an 8, none more is taken", "
     @brew, @load, @64, @64, @64, @64, @64, @64, @64, @64, @64, @64, @64, @64, @64, @64, @64, add #16x1, add #16x1, add #16x1, freeze, add #15x1, add #2x1 =8, add #1x1, add #1x1 =8, add, wj 1, aj 1, add #1x1, wj 2, aj 2, cl 3, land 1, crash
     @front, replay #16x1"),
@@ -91,8 +107,8 @@ pub(crate) const DAYS: &[Script] = &[
     disk 20 4096 0 0 0 90112 4096 0 0 0 90112 4096, @load, @16320, @16320, @16320, @16320, freeze, add #1x255, add #1x2 =8, add #1x1, add #1x1 =8, add
     wj 1, wj 2, aj 1, aj 2, cl 3, land 1, ac 3, crash, @front, replay #16x255"),
 ("replay", "`replay`: right, empty, wrong (6), more than is left (6), 17 entries or one of 256 bytes (4), behind the end (6); commits don't wait for it", "
-    @brew, @load, replay, replay 41 =6, add 41 00 43 #1x255, wj 1, add #14x1, wj 2, aj 1, aj 2, cl 3, land 1, ac 3, crash, @front
-    replay, replay 42 =6, replay 41 01 =6, replay 4100 =6, replay 41, replay 41 =6, replay 00 43 44 =6, replay 00 43, replay #17x1 =4, replay #1x256 =4
+    @brew, @load, replay, replay 41 =6, add 41 80 43 #1x255, wj 1, add #14x1, wj 2, aj 1, aj 2, cl 3, land 1, ac 3, crash, @front
+    replay, replay 42 =6, replay 41 00 =6, replay 41 81 =6, replay 4100 =6, replay 41, replay 41 =6, replay 00 =6, replay 80 43 44 =6, replay 80 43, replay #17x1 =4, replay #1x256 =4
     add 41 =6, freeze =6, cl 1, replay #1x254 =6, replay #1x255, land 0, ac 1, replay #15x1 =6, replay #14x1, replay #1x1 =6, replay, add 45, freeze"),
 ("sync-requests", "`push`, `pop`: State3 at the push; State2 at a write of entries in memory, at a freeze, or at a commit's request with none in memory; State1 at a commit's answer; an id known (5), unknown (5), not yet at State1 (6)", "
     @brew, push 1, push 1 =5, pop 2 =5, pop 1 =6, @load, push 2, add 41, wj 1, push 3, pop 2 =6, aj 1, cl 2, push 4, pop 1 =6, land 1, pop 1 =6, ac 2
@@ -151,6 +167,15 @@ pub(crate) const DAYS: &[Script] = &[
     @brew, @load, add 41, wj 1, aj 1, cl 2, land 1, crash, rs 0 1, crash, as 0 1 =5, rs 0 1, rs 1 2, as 0 1, crash
     @superblocks, rj 0 1, crash, ar 1 =5, @superblocks, rj 0 1, ar 1, crash, @front, crash, @front, replay 41"),
 // Disks that were written before.
+("blank-stored", "a disk from before with blank entries: they are loaded and replayed as they are, kept by a log commit with what is added, loaded again after a crash, and dropped by a location commit", "
+    disk 8 4096 3 5 1 40960 4096 2 0 0 40960 4096, block 5 0100+0500+010102ff01+41+00+0000+00*255+42
+    @front, replay 00 =6, replay 41 0000 =6, replay 41 01 =6, add 00 =13, replay 41 00, replay 00 =6, replay 0000 00*254 =6, add 43 =6, replay 0000 00*255, replay 00 =6, replay 42
+    add 00 =13, add 43, freeze, wj 1, aj 1, cl 2, land 1, ac 2, crash, @front, replay 00 =6, replay 41 00 0000 00*255 42 43 00 =6, replay 41 00 0000 00*255 42 43
+    freeze, add 44, loc 45056 7, wj 1, aj 1, co 2, land 0, ac 2, crash, @front, replay 00 =6, replay 44, add 00 =13"),
+("blank-stored-alone", "stored ranges of blank entries only, of one byte and of 255, back to back; the store takes no more of them, and keeps these through commits and crashes", "
+    disk 4 4096 7 1 2 24576 4096 8 2 2 24576 4096, block 2 0100+0100+01, block 3 0100+0200+ff02
+    @front, cl 1, land 0, ac 1, replay 00, add 00 =13, crash, @front, replay 00 00*255 0000, add 00*255 =13, cl 1, land 1, ac 1, crash, @front, replay 00 00*255, replay 0000, add =0, add 41, wj 1, aj 1, cl 2, land 0, crash
+    @pieces, replay 00 00*255 0000 41"),
 ("stored-two-pieces", "a disk from before, its journal round the ring's end: two ranges back to back, the second of two blocks, of which the back one is zeros alone; a range joins them", "
     disk 4 4096 0 2 3 24576 4096 0 0 0 24576 4096, block 2 0100+0200+0102+41+0000, block 3 0200+1000+ff*16, block 0
     @superblocks, rj 0 3, rj 1 4, ar 4, f2 =6, xr 3, rj 0 3, ar 3, f2, replay 41 00 =6, replay 41 0000, replay 00*255*16
@@ -189,7 +214,7 @@ pub(crate) const DAYS: &[Script] = &[
 ("ill-superblock", "a slot that isn't selected starts at N: no step is taken, each is a 2, before any other question", "
     disk 8 4096 0 0 0 40960 4096 0 8 0 40960 4096
     wj 1 =2, aj 1 =2, cl 1 =2, co 1 =2, ac 1 =2, rs 0 1 =2, rs 2 1 =2, as 0 1 =2, xs 0 1 =2, rj 0 1 =2, ar 1 =2, xr 1 =2, f1 =2, f2 =2
-    freeze =2, loc 40960 1 =2, add 41 =2, add #17x1 =2, replay 41 =2, push 1 =2, pop 1 =2, noop =2, again 0 =2, land 0 =2, crash =2, ? brew, noop =2"),
+    freeze =2, loc 40960 1 =2, add 41 =2, add #17x1 =2, add 00 =2, replay 41 =2, push 1 =2, pop 1 =2, noop =2, again 0 =2, land 0 =2, crash =2, ? brew, noop =2"),
 ("ill-superblock-len", "a slot of N + 1 blocks: 2", "
     disk 8 4096 0 0 9 40960 4096 1 0 0 40960 4096, noop =2, rs 0 1 =2, crash =2"),
 ("ill-superblock-address", "a slot whose table has neither address: 2", "

@@ -1,5 +1,6 @@
 //! Document 01's brew day, its wrong turns, demand 3 on random days, and the conformance files.
 
+mod blank;
 mod border;
 mod covered;
 mod handed;

@@ -15,7 +15,7 @@ use second::covered::{Covered, REACHED};
 use second::days::{Day, Options};
 use second::layout::Location;
 use second::ledger::Ledger;
-use second::range::{valid_entry, Entry};
+use second::range::{blank, valid_entry, Entry};
 use second::store::{Step, Store};
 use second::text::{Line, Reader};
 use second::trace::first_store;
@@ -85,6 +85,16 @@ struct Loaded {
     committed: bool,
 }
 
+/// No add that is taken has a blank entry, and none without one is a 13 (S-6).
+fn blank_is_told(step: &Step, refusal: &str) -> Result<(), String> {
+    let Step::Add(entries) = step else { return Ok(()) };
+    match (refusal, entries.iter().any(blank)) {
+        ("0", true) => Err("a blank entry is added".into()),
+        ("13", false) => Err("no entry is blank".into()),
+        _ => Ok(()),
+    }
+}
+
 /// The ledger beside one program's rows, and what its landings covered.
 struct Audit {
     ledger: Option<Ledger>,
@@ -108,6 +118,7 @@ impl Audit {
         let [Ok(q1), Ok(q2), Ok(q3)] = [q1, q2, q3].map(|q| q.parse::<u8>().map(usize::from)) else {
             return Err("no number of sync requests".into());
         };
+        blank_is_told(step, r)?;
         self.covered.feed(step, r != "0", [q1, q2, q3])?;
         self.shown(step, r == "0", [c, s, l, w, y])
     }
