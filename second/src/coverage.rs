@@ -1,7 +1,9 @@
 //! What a trace can meet: each step's refusals, and situations that random days must bring about.
 
+use crate::layout::Interval;
 use crate::machine::{Advance, Phase, Piece, Ready, PENDING_BYTES, PENDING_ENTRIES, SYNC_REQUESTS};
-use crate::range;
+use crate::range::{self, blank, Entry};
+use crate::sound;
 use crate::store::{Step, Store};
 use crate::superblock::Superblock;
 use crate::Refusal;
@@ -86,10 +88,34 @@ pub const SITUATIONS: &[Situation] = &[
     ("a crash before the replay's end", |s| s.crashed() && s.ready(|r| !r.replay_left().is_empty())),
     ("a crash with frozen entries unwritten", |s| s.crashed() && s.ready(|r| !r.frozen.is_empty())),
     ("2: an ill-formed superblock", |s| s.refused(Refusal::State)),
+    ("13: a blank entry alone", |s| s.refused(Refusal::Blank) && s.adds(|e| e.len() == 1)),
+    ("13: a blank entry among others", |s| s.refused(Refusal::Blank) && s.adds(|e| !e.iter().all(blank))),
+    ("13: a blank entry of 255 bytes", |s| s.refused(Refusal::Blank) && s.adds(|e| e.contains(&vec![0; range::MAX_ENTRY]))),
+    ("13: where replay entries are left, too", |s| s.refused(Refusal::Blank) && s.ready(|r| !r.replay_left().is_empty())),
+    ("13: where pending has no room, too", |s| s.refused(Refusal::Blank) && s.ready(|r| s.adds(|e| no_room(r, e)))),
+    ("4: where an entry is blank, too", |s| s.refused(Refusal::Argument) && s.adds(|e| e.iter().any(blank))),
+    ("3: where an entry is blank, too", |s| s.refused(Refusal::Kind) && s.adds(|e| e.iter().any(blank))),
+    ("an entry one byte from blank is added", |s| s.added() && s.adds(|e| e.iter().any(nearly_blank))),
+    ("7: a stored journal that doesn't parse", |s| s.refused(Refusal::Parse)),
+    ("a load shows stored blank entries", |s| s.loaded(|r| r.replay.iter().any(blank))),
+    ("a load in two pieces shows stored blank entries", |s| s.loaded(|r| s.before.geometry.wraps(r.superblock.journal()) && r.replay.iter().any(blank))),
+    ("a load shows stored blank entries after a commit and a crash", |s| s.loaded(|r| s.committed(r) && r.replay.iter().any(blank))),
+    ("a replay takes stored blank entries", |s| s.taken() && matches!(s.step, Step::Replay(e) if e.iter().any(blank))),
+    ("6: a replay of another entry where a blank one is next", |s| s.refused(Refusal::Condition) && s.misses_blank()),
+    ("a location commit drops stored blank entries", |s| s.answered(|c, r| c.advance == Advance::Location && s.drops_blank(r))),
 ];
 
 fn pending_bytes(r: &Ready) -> usize {
     r.pending().map(Vec::len).sum()
+}
+
+fn no_room(r: &Ready, entries: &[Entry]) -> bool {
+    let bytes: usize = entries.iter().map(Vec::len).sum();
+    r.pending().count() + entries.len() > PENDING_ENTRIES || pending_bytes(r) + bytes > PENDING_BYTES
+}
+
+fn nearly_blank(entry: &Entry) -> bool {
+    entry.len() > 1 && entry.iter().filter(|b| **b != 0).count() == 1
 }
 
 /// One step, with the store before it and after it, and the day's first.
@@ -120,6 +146,29 @@ impl Seen<'_> {
 
     fn added(&self) -> bool {
         self.taken() && matches!(self.step, Step::Add(_))
+    }
+
+    fn adds(&self, holds: impl Fn(&[Entry]) -> bool) -> bool {
+        matches!(self.step, Step::Add(entries) if holds(entries))
+    }
+
+    /// The superblock isn't the first disk's selected one.
+    fn committed(&self, r: &Ready) -> bool {
+        let first = sound::slots(self.first).map(|slots| slots[Superblock::select(&slots)]);
+        first.is_some_and(|first| first.counter != r.superblock.counter)
+    }
+
+    /// A location commit drops the blocks before the frozen position; of blank entries only stored ones lie there.
+    fn drops_blank(&self, r: &Ready) -> bool {
+        let interval = Interval::new(r.superblock.start, r.frozen_position);
+        let bytes = self.before.disk.journal.slice(self.before.geometry, interval);
+        range::read(&bytes).is_some_and(|entries| entries.iter().any(blank))
+    }
+
+    /// A replay that has another entry in a blank one's place.
+    fn misses_blank(&self) -> bool {
+        let Step::Replay(entries) = self.step else { return false };
+        self.ready(|r| entries.iter().zip(r.replay_left()).any(|(given, left)| blank(left) && given != left))
     }
 
     fn crashed(&self) -> bool {

@@ -8,8 +8,10 @@ use crate::ledger::Ledger;
 use crate::machine::{Machine, Phase, Piece, Ready, Slot, Sync, PENDING_BYTES, STEP_ENTRIES};
 use crate::range::{self, Entry};
 use crate::store::{Step, Store};
+use crate::stored::{self, nearly_blank, NOT_BLOCKS};
 use crate::superblock::Superblock;
 use crate::text::{disk_line, LONGEST_LINE, MAX_BLOCKS};
+use crate::trace::first_store;
 
 /// SplitMix64.
 #[derive(Clone, Debug)]
@@ -70,11 +72,13 @@ pub struct Options {
     pub ill: bool,
 }
 
-/// A day's lines, the disk's first.
+/// A day's lines, the disk's and its blocks' first.
 pub struct Day {
     rng: Rng,
     options: Options,
-    first: Option<String>,
+    first: VecDeque<String>,
+    /// Has there been a step?
+    begun: bool,
     store: Store,
     ledger: Option<Ledger>,
     mood: (Mood, u64),
@@ -82,7 +86,7 @@ pub struct Day {
     left: usize,
 }
 
-fn first_disk(rng: &mut Rng, ill: bool) -> (Geometry, [Superblock; 2]) {
+fn geometry(rng: &mut Rng) -> Geometry {
     let n = match rng.below(4) {
         0 => rng.below(4) + 1,
         1 => rng.below(MAX_BLOCKS) + 1,
@@ -95,7 +99,12 @@ fn first_disk(rng: &mut Rng, ill: bool) -> (Geometry, [Superblock; 2]) {
         2 => rng.below(16_777_216) + 1,
         _ => 4096,
     };
-    let g = Geometry::new(n, t).expect("sizes in range");
+    Geometry::new(n, t).expect("sizes in range")
+}
+
+/// Both well formed, the selected journal mostly empty.
+fn superblocks(rng: &mut Rng, g: Geometry) -> [Superblock; 2] {
+    let n = g.n();
     let counter = match rng.below(4) {
         0 => 0,
         1 => rng.number(),
@@ -116,16 +125,29 @@ fn first_disk(rng: &mut Rng, ill: bool) -> (Geometry, [Superblock; 2]) {
         2 if n > 16 => slots[selected].start = 1 + rng.below(n - 16),
         _ => {}
     }
-    if ill || rng.one_in(60) {
-        let slot = &mut slots[rng.below(2) as usize];
-        match rng.below(4) {
-            0 => slot.start = n + rng.below(2),
-            1 => slot.len = n + 1,
-            2 => slot.table.addr += 1,
-            _ => slot.table.len = rng.of(&[0, t + 1, u64::MAX]),
-        }
+    slots
+}
+
+/// Makes one of the superblocks ill-formed.
+fn spoil(rng: &mut Rng, g: Geometry, slots: &mut [Superblock; 2]) {
+    let slot = &mut slots[rng.below(2) as usize];
+    match rng.below(4) {
+        0 => slot.start = g.n() + rng.below(2),
+        1 => slot.len = g.n() + 1,
+        2 => slot.table.addr += 1,
+        _ => slot.table.len = rng.of(&[0, g.t() + 1, u64::MAX]),
     }
-    (g, slots)
+}
+
+/// The disk's line; one day in eight begins with a disk that was written before, and has lines for its blocks.
+fn first_lines(rng: &mut Rng, ill: bool) -> VecDeque<String> {
+    let g = geometry(rng);
+    let mut slots = superblocks(rng, g);
+    let blocks = if rng.one_in(8) { stored::blocks(rng, g, &mut slots) } else { vec![] };
+    if ill || rng.one_in(60) {
+        spoil(rng, g, &mut slots);
+    }
+    [disk_line(g, &slots)].into_iter().chain(blocks).collect()
 }
 
 fn location(rng: &mut Rng, g: Geometry) -> Location {
@@ -136,15 +158,16 @@ fn location(rng: &mut Rng, g: Geometry) -> Location {
 impl Day {
     pub fn new(seed: u64, options: Options) -> Self {
         let mut rng = Rng::new(seed);
-        let (g, slots) = first_disk(&mut rng, options.ill);
-        let store = Store::new(g, slots);
+        let first = first_lines(&mut rng, options.ill);
+        let store = first_store(&first).expect("a disk");
         Day {
             rng,
             options,
-            first: Some(disk_line(g, &slots)),
+            first,
+            begun: false,
             ledger: Ledger::new(&store),
+            mood: if store.geometry.n() > 16 { (Mood::Hoard, 120) } else { (Mood::Steady, 10) },
             store,
-            mood: if g.n() > 16 { (Mood::Hoard, 120) } else { (Mood::Steady, 10) },
             script: VecDeque::new(),
             left: options.steps,
         }
@@ -160,7 +183,7 @@ impl Day {
             _ => self.rng.below(8) + 1,
         };
         if self.rng.one_in(30) {
-            return vec![0; len as usize];
+            return nearly_blank(&mut self.rng, len as usize);
         }
         self.rng.bytes(len as usize)
     }
@@ -198,6 +221,22 @@ impl Day {
             _ => self.rng.below(5),
         };
         (0..count).map(|_| self.entry()).collect()
+    }
+
+    /// Entries for an add; of `often` one with a blank entry: alone, put between others, in another's place.
+    fn added(&mut self, often: u64) -> Vec<Entry> {
+        let mut entries = self.entries();
+        if !self.rng.one_in(often) {
+            return entries;
+        }
+        let blank = vec![0; self.rng.of(&[1, 1, 2, 7, range::MAX_ENTRY])];
+        let at = self.rng.below(entries.len() as u64 + 1) as usize;
+        match self.rng.below(3) {
+            0 => return vec![blank],
+            1 if entries.len() < STEP_ENTRIES => entries.insert(at, blank),
+            _ => entries.iter_mut().skip(at).take(1).for_each(|entry| entry.fill(0)),
+        }
+        entries
     }
 
     fn id(&mut self) -> u64 {
@@ -261,10 +300,11 @@ impl Day {
                 Step::ReceiveLocation(loc)
             }
             16 | 17 => {
-                let mut entries = self.entries();
+                let mut entries = self.added(4);
+                let byte = self.rng.of(&[0, 7]);
                 match self.rng.below(6) {
-                    0 => entries.resize(STEP_ENTRIES + 1, vec![7]),
-                    1 => entries.push(vec![9; 256]),
+                    0 => entries.resize(STEP_ENTRIES + 1, vec![byte]),
+                    1 => entries.push(vec![byte; 256]),
                     _ => {}
                 }
                 if self.rng.one_in(2) {
@@ -333,13 +373,13 @@ impl Day {
                 entries.truncate(self.rng.of(&[16, 16, 16, 16, 8, 3, 1, 0]));
                 if self.rng.one_in(20) && entries.len() < STEP_ENTRIES {
                     entries.push(self.entry());
-                } else if self.rng.one_in(20) {
+                } else if self.rng.one_in(12) {
                     let last = entries.last_mut().and_then(|e| e.last_mut());
                     last.into_iter().for_each(|b| *b ^= 1);
                 }
                 steps.push((80, Step::Replay(entries)));
                 steps.push((3, Step::CommitLog { id }));
-                steps.push((3, Step::Add(self.entries())));
+                steps.push((3, Step::Add(self.added(3))));
                 if let Some(commit) = r.commit {
                     steps.push((5, Step::Land { which: 1 - r.which as u64 }));
                     steps.push((5, Step::SuperblockWritten { id: commit.id }));
@@ -354,7 +394,7 @@ impl Day {
         let (g, mood, id) = (self.store.geometry, self.mood.0, self.id());
         let many = |wanted: bool, often, seldom| if wanted { often } else { seldom };
         let burst = matches!(mood, Mood::Crowd | Mood::Flood);
-        steps.push((many(burst, 150, 12), Step::Add(self.entries())));
+        steps.push((many(burst, 150, 12), Step::Add(self.added(many(burst, 30, 12)))));
         if !r.outgoing().is_empty() {
             let len = range::blocks(r.outgoing()) as u64;
             let interval = Interval::new(g.advance(r.superblock.start, r.written), len);
@@ -419,16 +459,6 @@ impl Day {
         Step::NoOp
     }
 
-    /// The line, now and then with other blanks and capital digits.
-    fn spelled(&mut self, line: String) -> String {
-        if !self.rng.one_in(50) {
-            return line;
-        }
-        let blank = self.rng.of(&["  ", "\t", "\x0c ", " \r"]);
-        let (word, rest) = line.split_once(' ').unwrap_or((&line, ""));
-        format!("{blank}{word}{blank}{}{blank}", rest.replace(' ', blank).to_uppercase())
-    }
-
     /// Loads by whole reads, replays the ledger, shows its location, and crashes again.
     fn showing(&self, ledger: &Ledger) -> VecDeque<Step> {
         let g = self.store.geometry;
@@ -452,6 +482,16 @@ impl Day {
         steps.push_back(Step::Crash);
         steps
     }
+}
+
+/// The line, now and then with other blanks and capital digits.
+pub fn spelled(rng: &mut Rng, line: String) -> String {
+    if !rng.one_in(50) {
+        return line;
+    }
+    let blank = rng.of(&["  ", "\t", "\x0c ", " \r"]);
+    let (word, rest) = line.split_once(' ').unwrap_or((&line, ""));
+    format!("{blank}{word}{blank}{}{blank}", rest.replace(' ', blank).to_uppercase())
 }
 
 /// Lines that aren't steps.
@@ -482,11 +522,14 @@ const NONSENSE: &[&str] = &[
     "disk 8 4096",
 ];
 
+/// Lines that say what a block holds, on any disk, but not behind its first step.
+const LATE: &[&str] = &["block 0 41", "block 0 00", "block 0"];
+
 impl Iterator for Day {
     type Item = String;
 
     fn next(&mut self) -> Option<String> {
-        if let Some(first) = self.first.take() {
+        if let Some(first) = self.first.pop_front() {
             return Some(first);
         }
         let scripted = self.script.pop_front();
@@ -496,7 +539,8 @@ impl Iterator for Day {
             None => {
                 self.left = self.left.checked_sub(1)?;
                 if self.rng.one_in(300) {
-                    return Some(self.rng.of(NONSENSE).to_string());
+                    let late = if self.begun { LATE } else { &[] };
+                    return Some(self.rng.of(&[NONSENSE, NOT_BLOCKS, late].concat()).to_string());
                 }
                 if self.rng.one_in(1000) {
                     // The longest line that is a step, or one byte more.
@@ -506,6 +550,7 @@ impl Iterator for Day {
                 self.choose()
             }
         };
+        self.begun = true;
         let refused = self.store.step(&step).is_err();
         if let Some(ledger) = &mut self.ledger {
             ledger.feed(&step, refused);
@@ -513,6 +558,6 @@ impl Iterator for Day {
         if self.options.ledger && !showing && !refused && step == Step::Crash {
             self.script = self.ledger.as_ref().map(|l| self.showing(l)).unwrap_or_default();
         }
-        Some(self.spelled(step.to_string()))
+        Some(spelled(&mut self.rng, step.to_string()))
     }
 }

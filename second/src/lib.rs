@@ -26,6 +26,7 @@ pub mod sector_inputs;
 pub mod sectors;
 pub mod sound;
 pub mod store;
+pub mod stored;
 pub mod superblock;
 pub mod text;
 pub mod trace;

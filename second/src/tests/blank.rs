@@ -2,10 +2,14 @@
 
 use super::stored::stored;
 use super::{loaded, play, reload};
+use crate::coverage::{Seen, SITUATIONS};
+use crate::days::{Day, Options};
 use crate::ledger::Ledger;
 use crate::machine::{Phase, Ready, PENDING_BYTES, PENDING_ENTRIES};
 use crate::range::{self, Entry};
 use crate::store::{Step, Store};
+use crate::text::parse_step;
+use crate::trace::first_store;
 use crate::Refusal;
 
 fn ready(store: &mut Store) -> &mut Ready {
@@ -130,9 +134,31 @@ fn stored_blank_entries_stay() {
     replayed(&mut store, &all);
     for line in ["add 42", "wj 1", "aj 1", "cl 2", "land 0", "crash"] {
         assert_eq!(play(&mut store, line), [0]);
-        ledger.feed(&crate::text::parse_step(line.as_bytes()).unwrap(), false);
+        ledger.feed(&parse_step(line.as_bytes()).unwrap(), false);
     }
     let all = [all, vec![vec![0x42]]].concat();
     assert!(ledger.entries().eq(&all));
     replayed(&mut store, &all);
+}
+
+/// Random days meet blank entries in each of these situations, and a stored journal that doesn't parse.
+#[test]
+fn random_days_meet_them() {
+    let wanted = |name: &str| name.contains("blank") || name.starts_with("13") || name.starts_with("7");
+    let situations: Vec<_> = SITUATIONS.iter().filter(|(name, _)| wanted(name)).collect();
+    let mut met = vec![0; situations.len()];
+    for seed in 1..=200 {
+        let lines: Vec<String> = Day::new(seed, Options { steps: 300, ledger: true, ill: false }).collect();
+        let first = first_store(&lines).expect("a disk");
+        let mut store = first.clone();
+        for step in lines.iter().filter_map(|line| parse_step(line.as_bytes())) {
+            let before = store.clone();
+            let result = store.step(&step);
+            let seen = Seen { first: &first, before: &before, step: &step, result, after: &store };
+            met.iter_mut().zip(&situations).for_each(|(count, (_, holds))| *count += u32::from(holds(&seen)));
+        }
+    }
+    let few: Vec<_> =
+        situations.iter().zip(&met).filter(|(_, count)| **count == 0).map(|(s, _)| s.0).collect();
+    assert!(met.len() == 15 && few.is_empty(), "{} situations, not met: {few:?}", met.len());
 }
