@@ -459,6 +459,13 @@ impl Day {
         Step::NoOp
     }
 
+    /// A line that isn't a step.
+    fn nonsense(&mut self) -> String {
+        let late = self.begun && self.rng.one_in(3);
+        let lines = if late { LATE.to_vec() } else { [NONSENSE, NOT_BLOCKS].concat() };
+        self.rng.of(&lines).to_string()
+    }
+
     /// Loads by whole reads, replays the ledger, shows its location, and crashes again.
     fn showing(&self, ledger: &Ledger) -> VecDeque<Step> {
         let g = self.store.geometry;
@@ -538,9 +545,10 @@ impl Iterator for Day {
             Some(step) => step,
             None => {
                 self.left = self.left.checked_sub(1)?;
-                if self.rng.one_in(300) {
-                    let late = if self.begun { LATE } else { &[] };
-                    return Some(self.rng.of(&[NONSENSE, NOT_BLOCKS, late].concat()).to_string());
+                // More often as the second line: there a block line is late by one step.
+                let seldom = if self.left + 2 == self.options.steps { 10 } else { 300 };
+                if self.rng.one_in(seldom) {
+                    return Some(self.nonsense());
                 }
                 if self.rng.one_in(1000) {
                     // The longest line that is a step, or one byte more.

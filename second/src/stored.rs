@@ -53,9 +53,9 @@ fn ranges(rng: &mut Rng, room: u64) -> Vec<u8> {
     bytes
 }
 
-/// One journal in four has a byte turned, mostly where a range begins, or a block that can't be read.
+/// One journal in three has a byte turned, mostly where a range begins, or a block that can't be read.
 fn damage(rng: &mut Rng, g: Geometry, stored: Interval, journal: &mut Journal) {
-    if !rng.one_in(4) {
+    if !rng.one_in(3) {
         return;
     }
     let block = g.advance(stored.start, rng.below(stored.len)) as usize;
