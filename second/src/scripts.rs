@@ -201,7 +201,7 @@ pub(crate) const DAYS: &[Script] = &[
     disk 8 4096 0 0 2 40960 4096 0 0 0 40960 4096, block 0 0100+0100+01+41, @superblocks, rj 0 3, ar 3 =6, xr 3, rj 0 3, ar 3 =6, f2 =6, crash"),
 ("stored-spelling", "what a `block` line is and what it isn't; of two for one block the later counts; lines that aren't steps don't end their time, and a step does, a refused one too", "
     @brew, ? block, ? block 8, ? block 8 41, ? block 18446744073709551616 41, ? block -1 41, ? block x, ? block 0x1 41, ? block41 0, ? blocks 0 41, ? Block 0 41, ? BLOCK 0
-    ? block 0 4, ? block 0 414, ? block 0 4g, ? block 0 0x41, ? block 0 41 42, ? block 0 41 ;, ? block 0 00*4097, ? block 0 41 ^16385, ?, ? brew, ? add 4, ? disk 8 4096
+    ? block 0 4, ? block 0 414, ? block 0 4g, ? block 0 0x41, ? block 0 41 42, ? block 0 41 ;, ? block 0 00*4097, ? block 0 41 ^16385, ?, ? brew, ? add 4, ? disk 8 4096, ? noop ^16385
     block 0 41, block 0 42+43, block 1 44+45, block 1, \tblock  002\x0caB+Cd\r, block 3 ff*4096, block 00000000000000000000000000000000000004 00, block 5 \t, block 6 41 ^16384, ? block 8
     block 7, f1 =6, ? block 0 46, ? block 7, rs 0 1, ? block 0 46, crash, ? block 0 46, ? block 8, noop"),
 // Disks and lines.
@@ -223,6 +223,8 @@ pub(crate) const DAYS: &[Script] = &[
     disk 8 4096 0 0 0 40960 0 0 0 0 40960 4096, noop =2, rs 0 1 =2, crash =2"),
 ("ill-superblock-long-table", "a slot whose table has T + 1 bytes: 2", "
     disk 8 4096 0 0 0 40960 4096 0 0 0 45056 4097, noop =2, rs 0 1 =2, crash =2"),
+("stored-ill", "on a disk with an ill-formed superblock `block` lines are what they are elsewhere; each step is a 2, and ends their time", "
+    disk 8 4096 0 0 9 40960 4096 1 0 0 40960 4096, block 0 0100+0100+01+41, block 7 00, noop =2, ? block 0 42, rs 0 1 =2, add 00 =2, ? block 8, crash =2"),
 ("full-superblock", "slots at their bounds (start N - 1, length N, table 2 of T bytes) are well formed", "
     disk 8 4096 3 7 0 45056 4096 3 7 8 40960 1, noop, @load"),
 ("spelling", "blanks are runs of spaces, tabs, form feeds and carriage returns; digits of either case; zeros may lead; a line of 16,384 bytes is a step", "
