@@ -2,11 +2,12 @@
 -- list of calls, and then a crash that it takes, and is then loaded by reads answered whole and the two finishing steps, with no other step
 -- taken between. The two machines at Ready, with their replay entries, are equal exactly when the two ledgers are, and each machine shows
 -- its own ledger.
-use mathlib.Core.Bool.{Bool}
+use mathlib.Core.Bool.{Bool, true}
 use mathlib.Core.Path.{_≡_}
 use mathlib.Core.List.{List, map}
 use Rattle.layout.specs.declared.Geometry.{Geometry}
 use Rattle.layout.specs.declared.Location.{Location}
+use Rattle.range.specs.Blank.{noneBlank}
 use Rattle.codec.specs.Format.{format}
 use Rattle.source.specs.JournalCache as M
 use Rattle.source.specs.JournalSystem as Y
@@ -17,6 +18,7 @@ use Rattle.history.specs.Whole.History
 use Rattle.history.specs.Whole.History.{whole-history}
 use Rattle.history.specs.Earlier.{Past, ledgerSince, noPast}
 use Rattle.history.specs.Whole.Ever.{since-tells, stores-since-tell}
+use Rattle.history.specs.Whole.Added.{loaded-none-blank}
 
 pub demand-3 : (g : Geometry) (first : Y.Variables) (loc : Location) (i : Y.Init g first loc)
     (calls : List Call) (answers : List Bool) (loading : List Call) (loaded : List Bool) (r : M.ReadyVariables)
@@ -35,6 +37,13 @@ pub loaded-tells : (g : Geometry) (first : Y.Variables) (loc : Location) (i : Y.
     → let v = shown format (ledgerOf g format first loc i calls answers loading loaded) in
     r ≡ readyBy v (slotBy g first loc i (v .counter))
 loaded-tells g first loc i = History.loaded-tells g format limits first loc i
+
+-- "From now on such an entry isn't taken into the journal" (document 02, S-6): from `Init`, nothing that is loaded is of zeros only
+pub none-blank-loaded : (g : Geometry) (first : Y.Variables) (loc : Location) (i : Y.Init g first loc)
+    (calls : List Call) (answers : List Bool) (loading : List Call) (loaded : List Bool) (r : M.ReadyVariables)
+    → Loaded g format limits first calls answers loading loaded r
+    → noneBlank (r .replayJournal) ≡ true
+none-blank-loaded g = loaded-none-blank g format limits
 
 -- A disk from before. What came before (`Past`) was taken by this release or by earlier ones, adds of entries of zeros only among it. Every field of a machine
 -- that is loaded behind it is told by the ledger of the whole history, such entries included: they are written, loaded and replayed as they are.

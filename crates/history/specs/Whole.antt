@@ -4,3 +4,4 @@ pub mod First
 pub mod History
 pub mod Stores
 pub mod Ever
+pub mod Added

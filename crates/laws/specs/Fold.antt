@@ -142,6 +142,11 @@ module _ {ℓ κ} {A : Type ℓ} (P : A → Type κ) where
   each-right [] ys p = p
   each-right (x ∷ xs) ys p = each-right xs ys (p .1)
 
+  pub each-drop : (n : ℕ) (xs : List A) → Each P xs → Each P (drop n xs)
+  each-drop zero xs p = p
+  each-drop (suc n) [] p = tt
+  each-drop (suc n) (x ∷ xs) p = each-drop n xs (p .1)
+
   pub each-at : (xs : List A) (i : ℕ) (d : A) → Each P xs → i < length xs → P (getD xs i d)
   each-at [] i d p h = absurd (omega arith)
   each-at (x ∷ xs) zero d p h = p .0

@@ -7,8 +7,8 @@ use mathlib.Core.List.{List, [], _∷_}
 use native.Mathlib.Omega.{arith}
 use lib.ListN.{length, getD, replicate}
 use borrow.Author.Tests.{eqb-true}
-use Rattle.laws.specs.Choice.{also, true-also, split-bool, true-false}
-use Rattle.laws.specs.Fold.{every, every-done, every-at, every-replicate}
+use Rattle.laws.specs.Choice.{also, true-also, also-left, also-right, also-both, not-true, split-bool, true-false}
+use Rattle.laws.specs.Fold.{every, Each, every-done, every-at, every-replicate}
 use Rattle.laws.specs.Bytes.{isZero, zeros-are}
 use Rattle.range.specs.Form.{Entry}
 
@@ -45,6 +45,17 @@ blank-some es s =
     split-bool (noneBlank es)
     (λ e. true-false (sym (every-at someByte es (s .place) [] e (s .there)) ∙ ap not z))
     (λ e. e)
+
+-- said of each entry
+pub none-blank-each : (es : List Entry) → noneBlank es ≡ true → Each (λ e. blank e ≡ false) es
+unfolding noneBlank every
+none-blank-each [] e = tt
+none-blank-each (x ∷ xs) e = (not-true (blank x) (also-left (someByte x) (every someByte xs) e), none-blank-each xs (also-right (someByte x) (every someByte xs) e))
+
+pub each-none-blank : (es : List Entry) → Each (λ e. blank e ≡ false) es → noneBlank es ≡ true
+unfolding noneBlank every
+each-none-blank [] h = refl
+each-none-blank (x ∷ xs) h = also-both (someByte x) (every someByte xs) (ap not (h .0)) (each-none-blank xs (h .1))
 
 -- what the length tells, and a byte at any place
 pub no-byte : (e : Entry) → length e ≡ 0 → true ≡ blank e

@@ -9,6 +9,7 @@ use Rattle.laws.specs.Choice.{ruin}
 use Rattle.layout.specs.declared.Geometry.{Geometry}
 use Rattle.layout.specs.declared.Location.{Location}
 use Rattle.superblock.specs.declared.DiskOp.{DiskOp}
+use Rattle.range.specs.Blank.{noneBlank}
 use Rattle.codec.specs.Format.{format}
 use Rattle.source.specs.JournalSystem as Y
 use Rattle.source.specs.JournalCache as M
@@ -17,7 +18,8 @@ use Rattle.history.specs.Ledger.{Shown, shown}
 use Rattle.history.specs.Statement as history
 use Rattle.history.specs.Statement.{Takes, Ran, LoadedStore, ledgerOf, shows}
 use Rattle.history.specs.Earlier.{Past, ledgerSince, noPast}
-use Rattle.history.specs.Demand.{earlier-two-stores}
+use Rattle.history.specs.Demand.{none-blank-loaded, earlier-two-stores}
+use Rattle.history.specs.Whole.Stores.{store-loaded}
 use Rattle.machine.specs.declared.Kind.{Kind}
 use Rattle.machine.specs.declared.Kind.the-variants as kind
 use Rattle.machine.specs.Machine.{byKind}
@@ -183,3 +185,12 @@ pub code-demand-3 : (g : Geometry) (first : Y.Variables) (loc : Location) (i : Y
     (shown format (ledgerOf g format first loc i (map (codeStore g .call) calls) answers (map (codeStore g .call) loading) loaded))
     (shown format (ledgerOf g format first loc i (map (codeStore g .call) calls′) answers′ (map (codeStore g .call) loading′) loaded′))
 code-demand-3 g first loc i = code-earlier-demand-3 g first loc i (noPast g format limits first) (noPast g format limits first)
+
+-- From `Init`, nothing that the code loads is of zeros only.
+pub code-none-blank : (g : Geometry) (first : Y.Variables) (loc : Location) (i : Y.Init g first loc)
+    (s : State) (calls : List Made) (answers : List Bool) (crashing : Made) (loading : List Made) (loaded : List Bool) (r : M.ReadyVariables)
+    → (h : LoadedStore (codeStore g) first s calls answers crashing loading loaded r) → noneBlank (readySeen (h .end) .replayJournal) ≡ true
+code-none-blank g first loc i s calls answers crashing loading loaded r h =
+    ap (λ (q : M.ReadyVariables). noneBlank (q .replayJournal)) (loaded-ready g (h .end) r (h .ready) .1)
+    ∙ none-blank-loaded g first loc i (map (codeStore g .call) calls) answers (map (codeStore g .call) loading) loaded r
+    (store-loaded g format limits (codeStore g) first s calls answers crashing loading loaded r h)
