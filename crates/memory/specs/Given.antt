@@ -1,12 +1,13 @@
 -- The entries that a lent memory holds: its bytes, its lengths and a count. And the entries that a caller brings.
 use Prim.Native.Nat.{ℕ, _*_, _≤_}
+use mathlib.Core.Bool.{true}
 use mathlib.Core.Path.{_≡_, sym, _∙_, ap}
 use mathlib.Core.List.{List}
 use native.Mathlib.Omega.{arith}
 use lib.ListN.{length}
 use lib.Dec.{leb}
 use borrow.Author.Tests.{leb-true, le-leb}
-use Rattle.laws.specs.Choice.{also, andThen, ask, also-left, also-right, also-both, ask-yes, ask-holds, ask-fails, not-so, false-true}
+use Rattle.laws.specs.Choice.{also, andThen, andThen-left, andThen-right, andThen-both, ask, also-left, also-right, also-both, ask-yes, ask-holds, ask-fails, not-so, false-true}
 use Rattle.range.specs.Form.{Entry, MostEntryLength}
 use Rattle.range.specs.Blank.{noneBlank}
 use Rattle.range.specs.Memory.{view, total}
@@ -59,6 +60,15 @@ given-asked e q =
 pub asked-given : (e : Memory) → Given e → askGiven e ≡ 0
 unfolding askGiven
 asked-given e g = ask-holds 4 _ (also-both _ _ (le-leb (e .count) MostGiven (g .few)) (facts-entries _ _ _ _ (g .held)))
+
+-- an add's two questions, and the one of any entries
+pub added-asked : (e : Memory) → askAdded e ≡ 0 → (askGiven e ≡ 0) × (noneBlank (entriesOf e) ≡ true)
+unfolding askAdded
+added-asked e q = (andThen-left _ _ q, ask-yes 13 _ (omega arith) (andThen-right _ _ q))
+
+pub asked-added : (e : Memory) → askGiven e ≡ 0 → noneBlank (entriesOf e) ≡ true → askAdded e ≡ 0
+unfolding askAdded
+asked-added e q s = andThen-both _ _ q (ask-holds 13 _ s)
 
 -- their bytes are few
 pub given-small : (e : Memory) → askGiven e ≡ 0 → bytesOf e ≤ MostEntryLength * MostGiven

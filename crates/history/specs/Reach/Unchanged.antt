@@ -2,7 +2,6 @@
 -- same calls are taken, to the same states, whatever the range format and the limits. The ledger is a function of calls and answers.
 use Prim.Native.Nat.{ℕ}
 use mathlib.Core.Bool.{Bool, true, false}
-use mathlib.Core.Path.{_≡_, sym, subst}
 use mathlib.Core.List.{List, [], _∷_}
 use mathlib.Core.Logic.{_↔_}
 use Rattle.layout.specs.declared.Geometry.{Geometry}
@@ -12,11 +11,12 @@ use Rattle.source.specs.JournalSystem as Y
 use Rattle.source.specs.JournalSystem.{SuperblockOfDisk}
 use Rattle.source.specs.Limits.{Limits}
 use Rattle.source.specs.Laws.Overlap.{before-meets}
-use Rattle.history.specs.Ledger.{Call, Ledger, begin, heard, books}
+use Rattle.history.specs.Ledger.{Call, Ledger, begin, tell, heard, books}
 use Rattle.history.specs.Statement.{Takes, Goes, Trace}
 use Rattle.history.specs.Before.{TakesBefore, TraceBefore}
 use Rattle.history.specs.Simulation.Relation.{Sim}
 use Rattle.history.specs.Simulation.Steps.{sim-step}
+use Rattle.history.specs.Whole.Lists.{goes-by, run-by}
 use Rattle.history.specs.Whole.First.{firstParity, init-sim}
 use Rattle.history.specs.Reach.Neat.{Neat, neat-before}
 use Rattle.history.specs.Reach.Reachable.{neat-tied, neat-init}
@@ -41,16 +41,8 @@ module _ (g : Geometry) (C : Codec) (L : Limits) (p : ℕ) where
   abbrev Stands : Y.Variables → Ledger → Type 0
   Stands s l = Sim g C p (s .machine) (s .disk) l × Neat g C (s .machine) (s .disk) (l .kept)
 
-  stands-goes : (s t : Y.Variables) (l : Ledger) (x : Call) (b : Bool) → Stands s l → Goes (Takes g C L) s x b t → Stands t (heard g C b x l)
-  stands-goes s t l x true k h = (sim-step g C L p s t l (k .0) x h, neat-tied g C L p s t l (k .0) (k .1) x (h .event) (h .tied) (h .allowed))
-  stands-goes s t l x false k h = subst (λ (u : Y.Variables). Stands u l) (sym h) k
-
-  stands-run : (s t : Y.Variables) (l : Ledger) (xs : List Call) (bs : List Bool) → Stands s l → Trace g C L s xs bs t → Stands t (books g C l xs bs)
-  unfolding books
-  stands-run s t l [] [] k h = subst (λ (u : Y.Variables). Stands u l) (sym h) k
-  stands-run s t l [] (b ∷ bs) k h = absurd h
-  stands-run s t l (x ∷ xs) [] k h = absurd h
-  stands-run s t l (x ∷ xs) (b ∷ bs) k h = stands-run (h .0) t (heard g C b x l) xs bs (stands-goes s (h .0) l x b k (h .1)) (h .2)
+  stands-step : (s t : Y.Variables) (l : Ledger) → Stands s l → (x : Call) → Takes g C L s t x → Stands t (tell g C x l)
+  stands-step s t l k x h = (sim-step g C L p s t l (k .0) x h, neat-tied g C L p s t l (k .0) (k .1) x (h .event) (h .tied) (h .allowed))
 
   takes-before : (s t : Y.Variables) (l : Ledger) (x : Call) → Stands s l → Takes g C L s t x → TakesBefore g C L s t x
   takes-before s t l x k h =
@@ -71,7 +63,7 @@ module _ (g : Geometry) (C : Codec) (L : Limits) (p : ℕ) where
   trace-before s t l [] (b ∷ bs) k h = absurd h
   trace-before s t l (x ∷ xs) [] k h = absurd h
   trace-before s t l (x ∷ xs) (b ∷ bs) k h =
-      (h .0, goes-before s (h .0) l x b k (h .1), trace-before (h .0) t (heard g C b x l) xs bs (stands-goes s (h .0) l x b k (h .1)) (h .2))
+      (h .0, goes-before s (h .0) l x b k (h .1), trace-before (h .0) t (heard g C b x l) xs bs (goes-by g C (Takes g C L) Stands stands-step s (h .0) l x b k (h .1)) (h .2))
 
 module _ (g : Geometry) (C : Codec) (L : Limits) (first : Y.Variables) (loc : Location) (i : Y.Init g first loc) (calls : List Call) (answers : List Bool) (end : Y.Variables) where
   abbrev parity : ℕ
@@ -92,4 +84,4 @@ module _ (g : Geometry) (C : Codec) (L : Limits) (first : Y.Variables) (loc : Lo
 
   -- and each call is then allowed exactly where it was, to the same states: so none that was taken is refused, and none refused is taken
   pub calls-unchanged : Trace g C L first calls answers end → (t : Y.Variables) (x : Call) → TakesBefore g C L end t x ↔ Takes g C L end t x
-  calls-unchanged h t x = (takes-now g C L end t x, takes-before g C L parity end t (books g C opening calls answers) x (stands-run g C L parity first end opening calls answers first-stands h))
+  calls-unchanged h t x = (takes-now g C L end t x, takes-before g C L parity end t (books g C opening calls answers) x (run-by g C (Takes g C L) (Stands g C L parity) (stands-step g C L parity) first end opening calls answers first-stands h))

@@ -16,9 +16,9 @@ use Rattle.source.specs.JournalSystem as Y
 use Rattle.source.specs.JournalSystem.{SuperblockOfDisk}
 use Rattle.source.specs.Limits.{Limits}
 use Rattle.source.specs.Departures.{Event, Allowed}
-use Rattle.history.specs.Ledger.{Call, writeJournal, journalWritten, commitLog, commitLocation, superblockWritten, readJournal, journalRead, readSuperblock, superblockRead, finishSuperblocks, finishOther, freeze, receive, add, replay, pushSync, popSync, noOp, askAgain, land, crash, nonsense, Range, Kept, Draft, writtenOf, Commit, log, location, Request, keptBy, leftBy, landed, Ledger, fresh, begin, tell, heard, books}
-use Rattle.history.specs.Statement.{Tied, tied-add, Takes, Goes, Trace, Loaded, ledgerOf}
-use Rattle.history.specs.Whole.Lists.{books-append}
+use Rattle.history.specs.Ledger.{Call, writeJournal, journalWritten, commitLog, commitLocation, superblockWritten, readJournal, journalRead, readSuperblock, superblockRead, finishSuperblocks, finishOther, freeze, receive, add, replay, pushSync, popSync, noOp, askAgain, land, crash, nonsense, Range, Kept, Draft, writtenOf, Commit, log, location, Request, keptBy, leftBy, landed, Ledger, fresh, begin, tell, books}
+use Rattle.history.specs.Statement.{Tied, tied-add, Takes, Trace, Loaded, ledgerOf}
+use Rattle.history.specs.Whole.Lists.{run-by, books-append}
 use Rattle.history.specs.Whole.History.{loaded-tells}
 
 -- of the entries of ranges, a draft, a request, a ledger
@@ -138,16 +138,8 @@ module _ (g : Geometry) (C : Codec) (L : Limits) where
   takes-some : (s t : Y.Variables) (x : Call) → Takes g C L s t x → (es : List JournalEntry) → x ≡ add es → Each Some es
   takes-some s t x h es e = added-some g C L s t es (h .event) (subst (λ (y : Call). Tied y (h .event)) e (h .tied)) (h .allowed)
 
-  heard-some : (s t : Y.Variables) (x : Call) (b : Bool) (l : Ledger) → Goes (Takes g C L) s x b t → Only Some l → Only Some (heard g C b x l)
-  heard-some s t x true l h o = only-tell Some g C x l (takes-some s t x h) o
-  heard-some s t x false l h o = o
-
-  run-some : (s t : Y.Variables) (xs : List Call) (bs : List Bool) (l : Ledger) → Trace g C L s xs bs t → Only Some l → Only Some (books g C l xs bs)
-  unfolding books
-  run-some s t [] [] l h o = o
-  run-some s t [] (b ∷ bs) l h o = absurd h
-  run-some s t (x ∷ xs) [] l h o = absurd h
-  run-some s t (x ∷ xs) (b ∷ bs) l h o = run-some (h .0) t xs bs (heard g C b x l) (h .2) (heard-some s (h .0) x b l (h .1) o)
+  run-some : (s t : Y.Variables) (l : Ledger) (xs : List Call) (bs : List Bool) → Only Some l → Trace g C L s xs bs t → Only Some (books g C l xs bs)
+  run-some = run-by g C (Takes g C L) (λ s l. Only Some l) (λ s t l o x h. only-tell Some g C x l (takes-some s t x h) o)
 
   -- so from `Init` nothing that is loaded is of zeros only
   pub loaded-none-blank : (first : Y.Variables) (loc : Location) (i : Y.Init g first loc)
@@ -169,5 +161,5 @@ module _ (g : Geometry) (C : Codec) (L : Limits) where
 
       after : Only Some (books g C (tell g C crash l₁) loading loaded)
       after =
-          run-some (h .after) (h .end) loading loaded (tell g C crash l₁) (h .load)
-          (heard-some (h .before) (h .after) crash true l₁ (h .crashed) (run-some first (h .before) calls answers l₀ (h .ran) (only-fresh Some (l₀ .kept) tt)))
+          run-some (h .after) (h .end) (tell g C crash l₁) loading loaded
+          (only-tell Some g C crash l₁ (takes-some (h .before) (h .after) crash (h .crashed)) (run-some first (h .before) l₀ calls answers (only-fresh Some (l₀ .kept) tt) (h .ran))) (h .load)

@@ -20,7 +20,7 @@ use Rattle.history.specs.Simulation.Working.{sim-add}
 use Rattle.history.specs.Simulation.Commits.{sim-commit-log, sim-commit-location}
 use Rattle.history.specs.Simulation.Steps.{sim-step}
 use Rattle.history.specs.Whole.Reloaded.{Clean}
-use Rattle.history.specs.Whole.Lists.{run-by, books-append}
+use Rattle.history.specs.Whole.Lists.{run-by, Simulates, books-append}
 use Rattle.history.specs.Whole.First.{firstParity, init-sim}
 use Rattle.history.specs.Whole.History.{loaded-from, clean-tells, both-tell}
 use Rattle.history.specs.Whole.Stores.{store-loaded}
@@ -46,7 +46,7 @@ module _ (g : Geometry) (C : Codec) (L : Limits) (first : Y.Variables) (loc : Lo
   module _ (past : Past g C L first) where
     -- what it left stands as the ledger says
     pub past-sim : Sim g C parity (past .left .machine) (past .left .disk) (books g C opening (past .calls) (past .answers))
-    past-sim = run-by g C parity (TakesEver g C L) (sim-ever g C L parity) first (past .left) opening (past .calls) (past .answers) (init-sim g C first loc i) (past .ever)
+    past-sim = run-by g C (TakesEver g C L) (Simulates g C parity) (sim-ever g C L parity) first (past .left) opening (past .calls) (past .answers) (init-sim g C first loc i) (past .ever)
 
     -- the lists of a history are told one after the other
     books-since : (calls : List Call) (answers : List Bool) (loading : List Call) (loaded : List Bool)

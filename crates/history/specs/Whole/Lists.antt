@@ -13,23 +13,27 @@ use Rattle.history.specs.Simulation.Relation.{Sim}
 use Rattle.history.specs.Simulation.Steps.{sim-step}
 use Rattle.history.specs.Whole.Reloaded.{Clean, clean-step, loads-tell}
 
--- the relation through a list, whatever takes its calls, where a call that is taken keeps it
-module _ (g : Geometry) (C : Codec) (p : ℕ) (takes : Y.Variables → Y.Variables → Call → Type 0)
-    (keeps : (s t : Y.Variables) (l : Ledger) → Sim g C p (s .machine) (s .disk) l → (x : Call) → takes s t x → Sim g C p (t .machine) (t .disk) (tell g C x l)) where
-  kept-by : (s t : Y.Variables) (l : Ledger) (x : Call) (b : Bool) → Sim g C p (s .machine) (s .disk) l → Goes takes s x b t → Sim g C p (t .machine) (t .disk) (heard g C b x l)
-  kept-by s t l x true z h = keeps s t l z x h
-  kept-by s t l x false z h = subst (λ (u : Y.Variables). Sim g C p (u .machine) (u .disk) l) (sym h) z
+-- What holds of a state and its ledger, through a list, whatever takes its calls, where a call that is taken keeps it
+module _ (g : Geometry) (C : Codec) (takes : Y.Variables → Y.Variables → Call → Type 0) (I : Y.Variables → Ledger → Type 0)
+    (keeps : (s t : Y.Variables) (l : Ledger) → I s l → (x : Call) → takes s t x → I t (tell g C x l)) where
+  pub goes-by : (s t : Y.Variables) (l : Ledger) (x : Call) (b : Bool) → I s l → Goes takes s x b t → I t (heard g C b x l)
+  goes-by s t l x true z h = keeps s t l z x h
+  goes-by s t l x false z h = subst (λ (u : Y.Variables). I u l) (sym h) z
 
-  pub run-by : (s t : Y.Variables) (l : Ledger) (xs : List Call) (bs : List Bool) → Sim g C p (s .machine) (s .disk) l → Runs (Goes takes) s xs bs t → Sim g C p (t .machine) (t .disk) (books g C l xs bs)
+  pub run-by : (s t : Y.Variables) (l : Ledger) (xs : List Call) (bs : List Bool) → I s l → Runs (Goes takes) s xs bs t → I t (books g C l xs bs)
   unfolding books
-  run-by s t l [] [] z h = subst (λ (u : Y.Variables). Sim g C p (u .machine) (u .disk) l) (sym h) z
+  run-by s t l [] [] z h = subst (λ (u : Y.Variables). I u l) (sym h) z
   run-by s t l [] (b ∷ bs) z h = absurd h
   run-by s t l (x ∷ xs) [] z h = absurd h
-  run-by s t l (x ∷ xs) (b ∷ bs) z h = run-by (h .0) t (heard g C b x l) xs bs (kept-by s (h .0) l x b z (h .1)) (h .2)
+  run-by s t l (x ∷ xs) (b ∷ bs) z h = run-by (h .0) t (heard g C b x l) xs bs (goes-by s (h .0) l x b z (h .1)) (h .2)
+
+-- the relation to the ledger, as it goes with the states
+abbrev pub Simulates : Geometry → Codec → ℕ → Y.Variables → Ledger → Type 0
+Simulates g C p s l = Sim g C p (s .machine) (s .disk) l
 
 module _ (g : Geometry) (C : Codec) (L : Limits) where
   pub sim-run : (p : ℕ) (s t : Y.Variables) (l : Ledger) (xs : List Call) (bs : List Bool) → Sim g C p (s .machine) (s .disk) l → Trace g C L s xs bs t → Sim g C p (t .machine) (t .disk) (books g C l xs bs)
-  sim-run p = run-by g C p (Takes g C L) (sim-step g C L p)
+  sim-run p = run-by g C (Takes g C L) (Simulates g C p) (sim-step g C L p)
 
   -- and through a load: the ledger stays, the machine is clean
   pub record Reloading (p : ℕ) (s : Y.Variables) (l : Ledger) : Type 0 where

@@ -1,23 +1,21 @@
 -- The entries that a step brings, the first k of what the caller lends, `view brought sizes k`: question 4 of them, and Advance of a whole machine.
 use Prim.Native.Nat.{ℕ, _+_, _≤_}
-use mathlib.Core.Bool.{true}
 use mathlib.Core.Path.{_≡_, sym, _∙_, ap, subst}
 use mathlib.Core.List.{List, [], append-nil}
 use native.Mathlib.Omega.{arith}
 use lib.ListN.{length, take}
 use lib.Seq.{length-take-le, take-all}
-use Rattle.laws.specs.Choice.{andThen-left, andThen-right, andThen-both, ask-yes, ask-holds, unless-done}
+use Rattle.laws.specs.Choice.{andThen-left, andThen-right, andThen-both, unless-done}
 use Rattle.laws.specs.Fold.{sum}
 use Rattle.laws.specs.Cut.{cut, flat, lengths, length-lengths, length-flat, cut-flat}
 use Rattle.laws.specs.Splice.{splice, clipped, clipped-fits}
 use Rattle.layout.specs.declared.Geometry.{Geometry}
 use Rattle.superblock.specs.declared.DiskOp.{DiskOp}
 use Rattle.superblock.specs.declared.DiskOp.the-variants as op
-use Rattle.range.specs.Blank.{noneBlank}
 use Rattle.range.specs.Memory.{view, total, length-view, lengths-view}
 use Rattle.memory.specs.Answer.{refusal, refusal-counted, counted-done}
 use Rattle.memory.specs.Limits.{storeLimits}
-use Rattle.memory.specs.Given.{memory, countOf, askGiven, askAdded, given-asked, asked-given}
+use Rattle.memory.specs.Given.{memory, countOf, askGiven, askAdded, given-asked, asked-given, added-asked, asked-added}
 use Rattle.ready.specs.State.{count}
 use Rattle.ready.specs.EntrySteps.{askAdvance, advanceNext}
 use Rattle.ready.specs.Laws.Asked.{advance-asked}
@@ -69,19 +67,6 @@ module _ (brought sizes : List ℕ) (k : ℕ) where
 
   given-refusal : refusal (givenOf brought sizes k) ≡ askAdded (memory brought sizes k)
   given-refusal = refusal-counted (askAdded (memory brought sizes k)) (countOf (memory brought sizes k))
-
-  -- questions 4 and 13 of an add
-  pub added-given : askAdded (memory brought sizes k) ≡ 0 → askGiven (memory brought sizes k) ≡ 0
-  unfolding askAdded
-  added-given q = andThen-left _ _ q
-
-  added-some : askAdded (memory brought sizes k) ≡ 0 → noneBlank (view brought sizes k) ≡ true
-  unfolding askAdded
-  added-some q = ask-yes 13 _ (λ e. absurd (omega arith)) (andThen-right _ _ q)
-
-  given-added : askGiven (memory brought sizes k) ≡ 0 → noneBlank (view brought sizes k) ≡ true → askAdded (memory brought sizes k) ≡ 0
-  unfolding askAdded
-  given-added q s = andThen-both _ _ q (ask-holds 13 _ s)
 
 -- any entries can be lent: their bytes, their lengths and their number
 pub brought-view : (es : List JournalEntry) → view (flat es) (lengths es) (length es) ≡ es
@@ -137,14 +122,14 @@ module _ (g : Geometry) (l : Lent) (m : Machine) (brought sizes : List ℕ) (k :
     bytes-after : clipped (l .bytes) (bodiesOf (l .lens) m .pending) (take (total sizes k) brought) ≡ splice (l .bytes) held (take (total sizes k) brought)
     bytes-after =
         let may = advance-asked storeLimits (m .ready) held (count k (total sizes k)) room in
-        let long = length-take-le (total sizes k) brought (asked-entries brought sizes k (added-given brought sizes k q) .fit) in
+        let long = length-take-le (total sizes k) brought (asked-entries brought sizes k (added-asked (memory brought sizes k) q .0) .fit) in
         ap (λ (at : ℕ). clipped (l .bytes) at (take (total sizes k) brought)) (bodies-found l m e .pending-is)
         ∙ clipped-fits (l .bytes) held (take (total sizes k) brought) (omega (arith, may .bytes-fit, long, t .bytes-lent))
 
     lens-after : clipped (l .lens) n (take k sizes) ≡ splice (l .lens) n (take k sizes)
     lens-after =
         let may = advance-asked storeLimits (m .ready) held (count k (total sizes k)) room in
-        let long = length-take-le k sizes (asked-entries brought sizes k (added-given brought sizes k q) .there) in
+        let long = length-take-le k sizes (asked-entries brought sizes k (added-asked (memory brought sizes k) q .0) .there) in
         clipped-fits (l .lens) n (take k sizes) (omega (arith, may .entries-fit, long, t .lens-lent))
 
     advance-view : Variables.Ready (readyOf (appendedLent (readyLent l) n held brought sizes k) (syncsOf m) (advanceNext (m .ready) (n + k))) ≡ Variables.Ready (workOf appended next)
@@ -168,8 +153,8 @@ module _ (g : Geometry) (l : Lent) (m : Machine) (brought sizes : List ℕ) (k :
         source =
             work-step g l appended m next (λ s s′. AdvanceClauses s s′ D.NoDiskOp es) e (next-kind e)
             (subst (λ (s′ : Variables). AdvanceClauses (workOf l m) s′ D.NoDiskOp es) (advance-view e (met .lent) q room)
-            (A.advance-sound (readyLent l) (syncsOf m) (m .ready) (f .pending) brought sizes k (asked-entries brought sizes k (added-given brought sizes k q)) storeLimits (f .replay) room));
-        none-blank = added-some brought sizes k q;
+            (A.advance-sound (readyLent l) (syncsOf m) (m .ready) (f .pending) brought sizes k (asked-entries brought sizes k (added-asked (memory brought sizes k) q .0)) storeLimits (f .replay) room));
+        none-blank = added-asked (memory brought sizes k) q .1;
       }
 
   pub clauses-advance : MachineLent g l → MachineForm l m → Given brought sizes k → StepLimits limits (AdvanceStep es) → (s′ : Variables) (dop : D.DiskOp)
@@ -180,7 +165,7 @@ module _ (g : Geometry) (l : Lent) (m : Machine) (brought sizes : List ℕ) (k :
       let w = work-out g l m (λ s. AdvanceClauses s s′ dop es) (h .source) in
       let f = work-form g l m (w .0) form in
       let few = subst (MachineCounts limits) (w .1 .next) counts in
-      let q = given-added brought sizes k (entries-asked brought sizes k given (step .few) (step .fit)) (h .none-blank) in
+      let q = asked-added (memory brought sizes k) (entries-asked brought sizes k given (step .few) (step .fit)) (h .none-blank) in
       let c = A.advance-complete (readyLent l) (syncsOf m) (m .ready) (f .pending) brought sizes k given storeLimits (f .replay) s′ dop (w .1) (few .pending-few) (few .pending-small) in (
         andThen-both _ _ (asks-work m (w .0)) (andThen-both _ _ (given-refusal brought sizes k ∙ q) (room-is (w .0) q ∙ c .0)),
         work-seen g appended next (next-kind (w .0)) ∙ sym (advance-view (w .0) t q (c .0)) ∙ c .1,

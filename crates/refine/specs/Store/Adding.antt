@@ -8,7 +8,7 @@ use Rattle.superblock.specs.declared.DiskOp.the-variants as op
 use Rattle.range.specs.Memory.{view}
 use Rattle.codec.specs.Format.{format}
 use Rattle.memory.specs.Answer.{refusal-counted}
-use Rattle.memory.specs.Given.{memory, countOf, askAdded}
+use Rattle.memory.specs.Given.{memory, countOf, askAdded, added-asked}
 use Rattle.ready.specs.declared.Bodies.{Bodies}
 use Rattle.source.specs.JournalDisk as D
 use Rattle.source.specs.JournalCache.{AdvanceStep}
@@ -27,7 +27,7 @@ use Rattle.store.specs.Steps.{askBoth, both, add, addedLent}
 use Rattle.calls.specs.declared.calls.Step.the-variants as step
 use Rattle.calls.specs.Given.{Given}
 use Rattle.refine.specs.Machine.ReadyForm as form
-use Rattle.refine.specs.Machine.MachineEntries.{asked-entries, added-given, advance-clauses}
+use Rattle.refine.specs.Machine.MachineEntries.{asked-entries, advance-clauses}
 use Rattle.refine.specs.Store.Seen.{seen, SizedStore, store-met, callOf}
 use Rattle.refine.specs.Store.Plain.{entries-is}
 use Rattle.refine.specs.Store.Taken.{answered-takes, machine-takes}
@@ -52,7 +52,7 @@ module _ (g : Geometry) (l : Lent) (v : Given) (s : Store) (k : ℕ) where
   unfolding askAdvanceStep
   given-there e =
       asked-entries (v .brought) (v .sizes) k
-      (added-given (v .brought) (v .sizes) k (sym (refusal-counted (askAdded (memory (v .brought) (v .sizes) k)) (countOf (memory (v .brought) (v .sizes) k))) ∙ andThen-left _ _ (andThen-right _ _ e)))
+      (added-asked (memory (v .brought) (v .sizes) k) (sym (refusal-counted (askAdded (memory (v .brought) (v .sizes) k)) (countOf (memory (v .brought) (v .sizes) k))) ∙ andThen-left _ _ (andThen-right _ _ e)) .0)
 
   add-tied : q ≡ 0 → Tied (callOf v (step.Advance k)) (MachineStep D.NoDiskOp (Source (AdvanceStep (view (v .brought) (v .sizes) k))))
   add-tied e =

@@ -22,7 +22,7 @@ use Rattle.range.specs.Form.{LengthWidth, MostEntryLength, allEntries}
 use Rattle.range.specs.Ranges.{allEntries-count, allEntries-bytes}
 use Rattle.range.specs.Memory.{total}
 use Rattle.memory.specs.Answer.{counted-done, refusal-counted}
-use Rattle.memory.specs.Given.{memory, countOf, askAdded}
+use Rattle.memory.specs.Given.{memory, countOf, askAdded, added-asked}
 use Rattle.memory.specs.Limits.{storeLimits}
 use Rattle.memory.specs.Replay.{isNext}
 use Rattle.unpacker.specs.Unpack.{unpack-asked}
@@ -47,7 +47,7 @@ use Rattle.refine.specs.Machine.ReadyForm.{ReadyForm}
 use Rattle.refine.specs.Machine.MachineView.{readyLent, MachineLent, MachineForm}
 use Rattle.refine.specs.Machine.MachineKinds.{by-kind, asked-other}
 use Rattle.refine.specs.Machine.MachineWork.{work-asked, work-form, bodies-found}
-use Rattle.refine.specs.Machine.MachineEntries.{asked-entries, added-given}
+use Rattle.refine.specs.Machine.MachineEntries.{asked-entries}
 use Rattle.refine.specs.Store.ReadyKept.{advance-form, replay-form, loaded-form}
 use Rattle.refine.specs.Store.MachineKept.{work-kind}
 
@@ -174,7 +174,7 @@ module _ (g : Geometry) (l : Lent) (m : Machine) (t : MachineLent g l) (f : Mach
       let q1 = andThen-right _ _ q in
       let asked : askAdded (memory brought sizes k) ≡ 0 =
       sym (refusal-counted (askAdded (memory brought sizes k)) (countOf (memory brought sizes k))) ∙ andThen-left _ _ q1 in
-      let given = asked-entries brought sizes k (added-given brought sizes k asked) in
+      let given = asked-entries brought sizes k (added-asked (memory brought sizes k) asked .0) in
       let bodies = bodies-found l m e .pending-is in
       let may : MayAdvance storeLimits (m .ready) (total (l .lens) (m .ready .entries .pending)) (count k (total sizes k)) =
       advance-asked storeLimits (m .ready) (total (l .lens) (m .ready .entries .pending)) (count k (total sizes k))

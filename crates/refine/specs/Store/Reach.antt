@@ -16,8 +16,7 @@ use Rattle.journal.specs.Blocks.{cell-size}
 use Rattle.range.specs.Memory.{view, total, length-view, lengths-view}
 use Rattle.codec.specs.Format.{format}
 use Rattle.memory.specs.Answer.{refusal-counted}
-use Rattle.memory.specs.Given.{memory, countOf, askGiven, askAdded, given-asked}
-use Rattle.refine.specs.Machine.MachineEntries.{added-given}
+use Rattle.memory.specs.Given.{memory, countOf, askGiven, askAdded, added-asked, given-asked}
 use Rattle.source.specs.JournalSystem as Y
 use Rattle.source.specs.JournalSystem.{SuperblockOfDisk}
 use Rattle.source.specs.Limits.{limits, MachineCounts, DiskCounts}
@@ -107,7 +106,7 @@ module _ (g : Geometry) (l : Lent) (v : Given) (s : Store) where
       let q = andThen-left _ _ (next-asked _ _ _ s o h .0) in
       either-brings (also (leb k (length (v .sizes))) (leb (total (v .sizes) k) (length (v .brought)))) (ledger.add (view (v .brought) (v .sizes) k))
       (given-few (v .brought) (v .sizes) k
-      (added-given (v .brought) (v .sizes) k (sym (refusal-counted (askAdded (memory (v .brought) (v .sizes) k)) (countOf (memory (v .brought) (v .sizes) k))) ∙ andThen-left _ _ (andThen-right _ _ q))))
+      (added-asked (memory (v .brought) (v .sizes) k) (sym (refusal-counted (askAdded (memory (v .brought) (v .sizes) k)) (countOf (memory (v .brought) (v .sizes) k))) ∙ andThen-left _ _ (andThen-right _ _ q)) .0))
   call-brings (step.Replay k) o h =
       let q = andThen-left _ _ (next-asked _ _ _ s o h .0) in
       either-brings (also (leb k (length (v .sizes))) (leb (total (v .sizes) k) (length (v .brought)))) (ledger.replay (view (v .brought) (v .sizes) k))
