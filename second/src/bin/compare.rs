@@ -85,6 +85,20 @@ struct Loaded {
     committed: bool,
 }
 
+impl Loaded {
+    /// A replay is taken exactly where its entries are the next ones.
+    fn replayed(&mut self, entries: &[Entry], taken: bool) -> Result<(), String> {
+        let sound = entries.len() <= 16 && entries.iter().all(valid_entry);
+        let prefix = sound && self.replay[self.taken..].starts_with(entries);
+        if prefix != taken {
+            let not = if prefix { "" } else { "not " };
+            return Err(format!("by the ledger this replay is {not}a prefix"));
+        }
+        self.taken += if taken { entries.len() } else { 0 };
+        Ok(())
+    }
+}
+
 /// No add that is taken has a blank entry, and none without one is a 13 (S-6).
 fn blank_is_told(step: &Step, refusal: &str) -> Result<(), String> {
     let Step::Add(entries) = step else { return Ok(()) };
@@ -142,17 +156,7 @@ impl Audit {
                 self.loaded = Some(Loaded { replay, taken: 0, table, received: None, committed: false });
                 self.loads += 1;
             }
-            (Step::Replay(entries), Some(known)) => {
-                let sound = entries.len() <= 16 && entries.iter().all(valid_entry);
-                let prefix = sound && known.replay[known.taken..].starts_with(entries);
-                if prefix != taken {
-                    return Err(format!(
-                        "by the ledger this replay is {}a prefix",
-                        if prefix { "" } else { "not " }
-                    ));
-                }
-                known.taken += if taken { entries.len() } else { 0 };
-            }
+            (Step::Replay(entries), Some(known)) => known.replayed(entries, taken)?,
             (Step::Freeze, Some(known)) if !known.committed && known.taken == known.replay.len() => {
                 if (known.received == Some(known.table)) == taken {
                     return Err(format!("the ledger's location is {:?}", known.table));
