@@ -9,4 +9,5 @@ pub mod LowFirst
 pub mod Ring
 pub mod Around
 pub mod Sets
+pub mod Least
 pub mod Maps

@@ -1,15 +1,16 @@
 -- Dafny's sets and maps as functions of the key, so that `==` is a path, and by content; and its pairs `x1`, `x2` as one record that a
 -- Bool reads and writes: false is the first (`which` 0), true the second (`which` 1), and "0 or 1" is met by the type. Assumes nothing.
-use Prim.Native.Nat.{ℕ, suc, _≤_, _<_}
+use Prim.Native.Nat.{ℕ, suc, _+_, _≤_, _<_}
 use mathlib.Core.Bool.{Bool, true, false, cond, not}
 use mathlib.Core.Path.{_≡_, refl, sym, _∙_, ap}
 use mathlib.Core.List.{List, [], _∷_, _++_}
+use mathlib.Core.Logic.{⊎-elim}
 use mathlib.Core.Option.{Option, none, some, Option·map, Option·some-injective, Option·none-ne-some}
 use native.Mathlib.Omega.{arith}
 use lib.Dec.{eqb}
-use lib.ListN.{length}
+use lib.ListN.{length, length-append}
 use borrow.Author.Tests.{eq-eqb, ne-eqb}
-use Rattle.laws.specs.Choice.{split-eq, true-false, false-true, same-test}
+use Rattle.laws.specs.Choice.{either, either-cases, split-eq, true-false, false-true, same-test}
 
 -- set<uint64>
 abbrev pub Ids : Type 0
@@ -330,6 +331,23 @@ few-before n s k m = few-within n s (join s k) m (λ i e. go (eqb k i) (s i) e)
     go : (a b : Bool) → b ≡ true → cond a true b ≡ true
     go true b e = refl
     go false b e = e
+
+-- two sets together
+pub either-few : (m n : ℕ) (s t : Ids) → AtMost m s → AtMost n t → AtMost (m + n) (λ i. either (s i) (t i))
+either-few m n s t a b =
+    record {
+      listed = a .listed ++ b .listed;
+      few = simp length-append (omega (arith, a .few, b .few));
+      all = λ i e.
+          ⊎-elim
+          (λ h. idsOf-append (a .listed) (b .listed) i ∙ ap (λ (c : Bool). cond c true (idsOf (b .listed) i)) (a .all i h))
+          (λ h. idsOf-append (a .listed) (b .listed) i ∙ ap (λ (c : Bool). cond (idsOf (a .listed) i) true c) (b .all i h) ∙ so (idsOf (a .listed) i))
+          (either-cases (s i) (t i) e);
+    }
+  where
+    so : (c : Bool) → cond c true true ≡ true
+    so true = refl
+    so false = refl
 
 -- a number that is there already joins as it stands, and one that isn't leaves as it stands
 pub join-same : (s : Ids) (k : ℕ) → s k ≡ true → join s k ≡ s
