@@ -5,6 +5,7 @@ pub mod Before
 pub mod Earlier
 pub mod Demand
 pub mod Sync
+pub mod Driver
 pub mod Calls
 pub mod Journal
 pub mod Simulation
@@ -13,3 +14,4 @@ pub mod Loads
 pub mod Reach
 pub mod Covering
 pub mod Example
+pub mod Drive

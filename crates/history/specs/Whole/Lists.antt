@@ -70,3 +70,10 @@ books-append g C l goes s t [] [] ys cs h = refl
 books-append g C l goes s t [] (b ∷ bs) ys cs h = absurd h
 books-append g C l goes s t (x ∷ xs) [] ys cs h = absurd h
 books-append g C l goes s t (x ∷ xs) (b ∷ bs) ys cs h = books-append g C (heard g C b x l) goes (h .0) t xs bs ys cs (h .2)
+
+pub runs-append : {S X : Type 0} (goes : S → X → Bool → S → Type 0) (s u t : S) (xs : List X) (bs : List Bool) (ys : List X) (cs : List Bool)
+    → Runs goes s xs bs u → Runs goes u ys cs t → Runs goes s (xs ++ ys) (bs ++ cs) t
+runs-append goes s u t [] [] ys cs h k = subst (λ v. Runs goes v ys cs t) h k
+runs-append goes s u t [] (b ∷ bs) ys cs h k = absurd h
+runs-append goes s u t (x ∷ xs) [] ys cs h k = absurd h
+runs-append goes s u t (x ∷ xs) (b ∷ bs) ys cs h k = (h .0, h .1, runs-append goes (h .0) u t xs bs ys cs (h .2) k)
