@@ -2,8 +2,8 @@
 -- question 2 of a system both ways; that every call that is taken is the source's (up to Sound); demand 3 of the code (Equal, History);
 -- that every step of the source within the limits is taken (Done to Complete); that a taken call keeps the form of the store (PartsSized to
 -- Kept); that questions 1 and 2 turn away no store that came from `Init` by its own calls (Fresh to Runs); that every history of the relations
--- within the limits is one of the code (Follows), and so the example day is (Day); that request S-3 changes no history (Unchanged); request S-2 of the code
--- (Syncs).
+-- within the limits is one of the code (Follows), and so the example day is (Day); that a load that follows the driver
+-- finishes (Names to Longest); that request S-3 changes no history (Unchanged); request S-2 of the code (Syncs).
 pub mod View
 pub mod Seen
 pub mod Joined
@@ -53,5 +53,9 @@ pub mod Runs
 pub mod Follows
 pub mod Day
 pub mod Exact
+pub mod Names
+pub mod NewIds
+pub mod Finishes
+pub mod Longest
 pub mod Unchanged
 pub mod Syncs

@@ -50,7 +50,7 @@ walk-lived there = refl
 walk-lived (_then_ {u = u} k w) = (u, k .0, walk-lived w)
 walk-lived (n refused-then w) = (n, walk-lived w)
 
-trace-lived : (s t : Y.Variables) (xs : List Call) → Trace g format limits s xs (taken xs) t → Lived g s xs (taken xs) t
+pub trace-lived : (s t : Y.Variables) (xs : List Call) → Trace g format limits s xs (taken xs) t → Lived g s xs (taken xs) t
 trace-lived s t [] h = h
 trace-lived s t (x ∷ xs) h = (h .0, h .1, trace-lived (h .0) t xs (h .2))
 
@@ -190,6 +190,7 @@ pub record CodeDay (l : Lent) : Type 0 where
   pub are-day : map (codeStore g .call) calls ≡ day
   pub are-evening : map (codeStore g .call) loading ≡ evening
   pub shows-told : shows (readySeen (loaded .end)) ≡ told
+  pub ends-day : stateSeen g (loaded .before) ≡ s29
   -- before the crash both sync requests are at State1
   pub saved : (syncsOf (loaded .before .store .machine) 8 ≡ some State1) × (syncsOf (loaded .before .store .machine) 9 ≡ some State1)
 
@@ -216,6 +217,7 @@ code-day l b =
       are-day = a .heard;
       are-evening = e .heard;
       shows-told = ap shows (loaded-ready g (e .end) (example-loads .0) at-ready .1) ∙ example-shows;
+      ends-day = a .ends;
       saved = (requests 8 ∙ example-saved .0, requests 9 ∙ example-saved .1);
     }
   where

@@ -35,6 +35,9 @@ form-met g l s z f m =
       joined = m .joined;
     }
 
+pub met-form : (g : Geometry) (l : Lent) (s : Store) (z : SizedStore s) → StoreMet g l s z → StoreForm g l s
+met-form g l s z m = record { machine-lent = m .machine .lent; machine = m .machine .form; disk-lent = m .disk .lent; tables = m .disk .tables }
+
 pub form-asks : (g : Geometry) (l : Lent) (s : Store) → SizedStore s → StoreForm g l s → SystemMeets g limits (seen g l s) → askStore g l s ≡ 0
 form-asks g l s z f m = met-store g l s z (form-met g l s z f m)
 

@@ -52,7 +52,7 @@ use Rattle.refine.specs.Store.History.{isTaken}
 use Rattle.refine.specs.Store.Follows.{made}
 
 -- does a step bring more along than its own numbers: entries, or a picture?
-abbrev brings : Step → Bool
+abbrev pub brings : Step → Bool
 brings (step.WriteBackJournalReq id1 id2) = false
 brings (step.WriteBackJournalResp id) = false
 brings (step.AdvanceLog id) = false
@@ -199,7 +199,8 @@ module _ (g : Geometry) (l : Lent) (v : Given) (s : Store) (z : SizedStore s) (f
   sense x h a e =
       nonsense-refused g format limits (seen g l s) t (record { event = event; tied = subst (λ (c : Call). Tied c event) e h; allowed = a .0 })
 
-  plain-taken : (x : Step) → brings x ≡ false → Tied (callOf v x) event → Fit → TakenTo g l v s x t
+  -- a step that brings nothing, whatever is handed with it
+  pub plain-taken : (x : Step) → brings x ≡ false → Tied (callOf v x) event → Fit → TakenTo g l v s x t
   plain-taken x p h a =
       let d = store-complete g l s z f t event (a .0) (a .1) in
       let e : d .call ≡ x = same-step v (d .given) x (d .call) p (sense x h a) (called-once _ _ event (d .tied) h) in

@@ -50,6 +50,9 @@ pub record Made : Type 0 where
   pub step : Step
   pub given : Given
 
+abbrev pub makes : Given → Step → Made
+makes v x = record { step = x; given = v }
+
 abbrev pub isTaken : StoreAnswer → Bool
 isTaken (answer.Next op) = true
 isTaken (answer.Refused q) = false

@@ -42,8 +42,8 @@ use Rattle.calls.specs.Step.{stepAnswerWith, stepped, steppedLent}
 use Rattle.refine.specs.Disk.View as disk
 use Rattle.refine.specs.Machine.ReadyForm.{each-fit}
 use Rattle.refine.specs.Machine.MachineView.{MachineLent}
-use Rattle.refine.specs.Store.Seen.{seen, SizedStore, callOf}
-use Rattle.refine.specs.Store.Done.{StoreForm, form-asks}
+use Rattle.refine.specs.Store.Seen.{seen, SizedStore, store-met, callOf}
+use Rattle.refine.specs.Store.Done.{StoreForm, met-form, form-asks}
 use Rattle.refine.specs.Store.Sized.{sized-step}
 use Rattle.refine.specs.Store.DiskKept.{tabled-counts}
 use Rattle.refine.specs.Store.Kept.{taken-asked, taken-formed, form-kept}
@@ -60,16 +60,22 @@ pub record StoreReached (g : Geometry) (p : ℕ) (l : Lent) (s : Store) (books :
 pub reached-asks : (g : Geometry) (p : ℕ) (l : Lent) (s : Store) (books : Ledger) → StoreReached g p l s books → askStore g l s ≡ 0
 reached-asks g p l s books r = form-asks g l s (r .sized) (r .form) (r .reached .meets)
 
--- `Init`
+-- a state that is seen as `Init`: any store with the form,
+reached-formed : (g : Geometry) (l : Lent) (s : Store) (loc : Location) → SizedStore s → StoreForm g l s → (i : Y.Init g (seen g l s) loc)
+    → StoreReached g (firstParity g format (seen g l s) loc i) l s (begin (SuperblockOfDisk g (seen g l s .disk) (i .wf)))
+reached-formed g l s loc z f i =
+    record { sized = z; form = f; reached = reached-init g format limits (seen g l s) loc i (cell-size (g .blocks) (l .blocks) (l .marks) (f .disk-lent .blocks-right .size)) }
+
+-- any that passes questions 1 and 2,
+pub reached-first : (g : Geometry) (l : Lent) (s : Store) (loc : Location) → SizedStore s → askStore g l s ≡ 0 → (i : Y.Init g (seen g l s) loc)
+    → StoreReached g (firstParity g format (seen g l s) loc i) l s (begin (SuperblockOfDisk g (seen g l s .disk) (i .wf)))
+reached-first g l s loc z q i = reached-formed g l s loc z (met-form g l s z (store-met g l s z q)) i
+
+-- and `Store::initial`
 pub reached-fresh : (g : Geometry) (l : Lent) (slots : Slots) (loc : Location) → MachineLent g (machineLent l) → disk.Lent g (l .blocks) (l .marks)
     → (i : Y.Init g (seen g l (fresh slots)) loc)
     → StoreReached g (firstParity g format (seen g l (fresh slots)) loc i) l (fresh slots) (begin (SuperblockOfDisk g (seen g l (fresh slots) .disk) (i .wf)))
-reached-fresh g l slots loc m d i =
-    record {
-      sized = fresh-sized slots;
-      form = fresh-form g l slots m d;
-      reached = reached-init g format limits (seen g l (fresh slots)) loc i (cell-size (g .blocks) (l .blocks) (l .marks) (d .blocks-right .size));
-    }
+reached-fresh g l slots loc m d i = reached-formed g l (fresh slots) loc (fresh-sized slots) (fresh-form g l slots m d) i
 
 -- What a call brings, of a yes to question 4
 

@@ -43,8 +43,8 @@ use Rattle.refine.specs.Machine.MachineView.{readyLent, syncsOf}
 use Rattle.refine.specs.Machine.MachineSync.{requests-seen}
 use Rattle.refine.specs.Machine.MachineWork.{work-seen, work-form}
 use Rattle.refine.specs.Store.Seen.{StoreMet, met-system, store-met, callOf, named}
-use Rattle.refine.specs.Store.History.{State, Made, Promise, isTaken, stateSeen, codeStore, readySeen}
-use Rattle.refine.specs.Store.Done.{StoreForm, TakenTo}
+use Rattle.refine.specs.Store.History.{State, Made, makes, Promise, isTaken, stateSeen, codeStore, readySeen}
+use Rattle.refine.specs.Store.Done.{StoreForm, met-form, TakenTo}
 use Rattle.refine.specs.Store.Sized.{sized-step}
 use Rattle.refine.specs.Store.Kept.{form-kept}
 use Rattle.refine.specs.Store.Within.{Brings, takes-within}
@@ -72,9 +72,6 @@ pub record IdleStore (s : Store) : Type 0 where
   pub none-frozen : s .machine .ready .entries .frozen ≡ 0
   pub none-outstanding : s .machine .ready .writes .count ≡ 0
   pub no-commit : s .machine .ready .commit ≡ commit.CommitNone
-
-abbrev pub makes : Given → Step → Made
-makes v x = record { step = x; given = v }
 
 -- a log commit under any id, its landing and its answer, whatever else is given with them
 abbrev pub savingCalls : State → ℕ → (v1 v2 v3 : Given) → List Made
@@ -151,7 +148,7 @@ module _ (g : Geometry) (s : State) (q : askStore g (s .lent) (s .store) ≡ 0) 
   met = store-met g (s .lent) (s .store) (s .sized) q
 
   formed : StoreForm g (s .lent) (s .store)
-  formed = record { machine-lent = met .machine .lent; machine = met .machine .form; disk-lent = met .disk .lent; tables = met .disk .tables }
+  formed = met-form g (s .lent) (s .store) (s .sized) met
 
   -- the slot of the commit
   abbrev slot : Bool
