@@ -7,8 +7,10 @@ use superblock::MaybeId;
 use words::Parsed;
 use words::Word;
 
+// `Drive` is the step that the loading driver names.
 pub(crate) enum Command {
     Is(Step),
+    Drive,
     Not,
 }
 
@@ -18,6 +20,9 @@ fn alone(line: &[u8], w: Word) -> Command {
     }
     if words::is(line, w, b"f2") {
         return Command::Is(Step::FinishLoadingOtherPhase);
+    }
+    if words::is(line, w, b"drive") {
+        return Command::Drive;
     }
     if words::is(line, w, b"freeze") {
         return Command::Is(Step::Freeze);

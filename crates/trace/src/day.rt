@@ -1,11 +1,10 @@
-// One line of the day: its step, and its row.
+// One line of the day: its step, if it is one.
 use super::command;
 use super::command::Command;
 use super::input::Input;
 use super::row;
 use super::stored;
-use calls::Step;
-use digest::check_number;
+use super::taking;
 use layout::Geometry;
 use runs::lesser;
 use store::Store;
@@ -52,60 +51,6 @@ fn other_line(begun: bool, n: u64, line: &[u8], i: Input, blocks: &mut [u8], mar
     row::not_a_step(n);
 }
 
-// The step with the entries that it brings, and its row.
-fn step(
-    s: Store,
-    g: Geometry,
-    n: u64,
-    x: Step,
-    brought: &[u8],
-    sizes: &[u16],
-    bytes: &mut [u8],
-    lens: &mut [u16],
-    pieces: &mut [u8],
-    rbytes: &mut [u8],
-    rlens: &mut [u16],
-    blocks: &mut [u8],
-    marks: &mut [u8],
-) -> Store {
-    let none = [0u8; 1];
-    let r = calls::step(
-        s,
-        g,
-        x,
-        brought,
-        sizes,
-        &none,
-        &none,
-        bytes,
-        lens,
-        pieces,
-        rbytes,
-        rlens,
-        blocks,
-        marks,
-    );
-    let next = r.store;
-    let a = r.answer;
-    let m = next.machine;
-    let d = next.disk;
-    let slots = d.slots;
-    let h = check_number(
-        slots,
-        m,
-        g,
-        bytes,
-        lens,
-        pieces,
-        rbytes,
-        rlens,
-        blocks,
-        marks,
-    );
-    row::print(n, a, m, h);
-    next
-}
-
 // The line, where one was read, as a step; a row is printed for it.
 pub(crate) fn turn(
     d: Day,
@@ -128,24 +73,32 @@ pub(crate) fn turn(
     let mut brought = [0u8; 8192];
     let mut sizes = [0u16; 8192];
     let c = command_of(line, i, &mut brought, &mut sizes);
-    let Command::Is(x) = c else {
-        other_line(d.begun, n, line, i, blocks, marks);
-        return at_row(s, n, d.begun);
-    };
-    let next = step(
-        s,
-        g,
-        n,
-        x,
-        &brought,
-        &sizes,
-        bytes,
-        lens,
-        pieces,
-        rbytes,
-        rlens,
-        blocks,
-        marks,
-    );
-    at_row(next, n, true)
+    match c {
+        Command::Is(x) => {
+            let next = taking::step(
+                s,
+                g,
+                n,
+                x,
+                &brought,
+                &sizes,
+                bytes,
+                lens,
+                pieces,
+                rbytes,
+                rlens,
+                blocks,
+                marks,
+            );
+            at_row(next, n, true)
+        },
+        Command::Drive => {
+            let next = taking::drive(s, g, n, bytes, lens, pieces, rbytes, rlens, blocks, marks);
+            at_row(next, n, true)
+        },
+        Command::Not => {
+            other_line(d.begun, n, line, i, blocks, marks);
+            at_row(s, n, d.begun)
+        },
+    }
 }

@@ -9,6 +9,7 @@ mod input;
 mod numbers;
 mod row;
 mod stored;
+mod taking;
 
 use day::Day;
 use first::First;
