@@ -249,11 +249,7 @@ impl Day {
 
     /// An id that waits somewhere, if there is any.
     fn used_id(&mut self) -> u64 {
-        let d = &self.store.disk;
-        let mut ids: Vec<u64> = d.superblock_reads.iter().flatten().copied().collect();
-        ids.extend(d.journal_reads.keys().chain(d.journal_writes.keys()));
-        ids.extend(d.superblock_writes.iter().flatten().map(|(id, _)| id));
-        ids.extend(self.store.machine.sync.keys());
+        let ids: Vec<u64> = self.store.disk.ids().chain(self.store.machine.sync.keys().copied()).collect();
         if ids.is_empty() || self.rng.one_in(4) {
             return self.id();
         }

@@ -94,6 +94,13 @@ impl Disk {
         }
     }
 
+    /// The ids of all requests that wait here.
+    pub fn ids(&self) -> impl Iterator<Item = Id> + '_ {
+        let reads = self.superblock_reads.iter().flatten().chain(self.journal_reads.keys());
+        let writes = self.superblock_writes.iter().flatten().map(|(id, _)| id);
+        reads.chain(self.journal_writes.keys()).chain(writes).copied()
+    }
+
     /// The slot at which a superblock write with this id waits.
     fn writing(&self, id: Id) -> Option<usize> {
         self.superblock_writes.iter().position(|w| w.is_some_and(|(i, _)| i == id))

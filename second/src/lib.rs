@@ -1,6 +1,6 @@
 //! A second supplier's fermentation store: the journal, its commit machine and its disk,
 //! written from document 01 and the five Dafny files alone; its sectors from document 02's S-1, its saves on
-//! an idle store from S-2, its empty intervals from S-3, its blank entries from S-6.
+//! an idle store from S-2, its empty intervals from S-3, its loading driver from S-4, its blank entries from S-6.
 #![forbid(unsafe_code)]
 
 pub mod conformance;
@@ -8,6 +8,7 @@ pub mod coverage;
 pub mod covered;
 pub mod days;
 pub mod disk;
+pub mod driver;
 pub mod handed;
 mod handed_cases;
 pub mod handed_conformance;

@@ -3,6 +3,7 @@
 mod blank;
 mod border;
 mod covered;
+mod drive;
 mod handed;
 mod sector;
 mod sectors;
@@ -21,7 +22,7 @@ use crate::machine::{Phase, Piece, Ready, Slot};
 use crate::range::{self, Entry};
 use crate::store::{Step, Store};
 use crate::superblock::Superblock;
-use crate::text::{parse_step, LONGEST_LINE};
+use crate::text::{parse_call, parse_step, LONGEST_LINE};
 use crate::{conformance, handed_conformance, sector_conformance, sound, trace, Refusal};
 
 fn g() -> Geometry {
@@ -38,8 +39,8 @@ fn select(a: u64, b: u64) -> usize {
 
 /// A store, played by lines; the refusals it gave.
 fn play(store: &mut Store, day: &str) -> Vec<u8> {
-    let steps = day.split(',').map(|line| parse_step(line.as_bytes()).expect("a step"));
-    steps.map(|s| store.step(&s).err().map_or(0, Refusal::number)).collect()
+    let calls = day.split(',').map(|line| parse_call(line.as_bytes()).expect("a step"));
+    calls.map(|c| c.take(store).1.err().map_or(0, Refusal::number)).collect()
 }
 
 /// A random day's first store, and its lines, of which those that are steps are played on it.
@@ -338,10 +339,11 @@ fn loads_show_the_ledger() {
         let g = store.geometry;
         let Some(mut ledger) = Ledger::new(&store) else { continue };
         for (n, line) in (0..).zip(day) {
-            let Some(step) = parse_step(line.as_bytes()) else { continue };
-            assert_eq!(parse_step(step.to_string().as_bytes()).as_ref(), Some(&step));
+            let Some(call) = parse_call(line.as_bytes()) else { continue };
+            assert_eq!(parse_call(call.to_string().as_bytes()).as_ref(), Some(&call));
             let before = store.clone();
-            let refused = store.step(&step).is_err();
+            let (step, result) = call.take(&mut store);
+            let refused = result.is_err();
             assert!(!refused || store == before, "seed {seed}, step {n}: a refusal altered the store");
             assert!(sound::system(&store) && slots_as_read(&store), "seed {seed}, step {n}");
             ledger.feed(&step, refused);

@@ -2,6 +2,7 @@
 
 use std::fmt;
 
+use crate::driver::Call;
 use crate::layout::{Geometry, Location, BLOCK};
 use crate::range::Entry;
 use crate::store::Step;
@@ -115,6 +116,14 @@ pub fn parse_step(line: &[u8]) -> Option<Step> {
     })
 }
 
+/// A line that is a step: `drive` alone, or a step with its arguments.
+pub fn parse_call(line: &[u8]) -> Option<Call> {
+    match short_words(line)?.collect::<Vec<_>>()[..] {
+        ["drive"] => Some(Call::Drive),
+        _ => parse_step(line).map(Call::Step),
+    }
+}
+
 /// What a line behind the disk's is.
 #[derive(Clone, Debug, PartialEq, Eq)]
 pub enum Line {
@@ -122,7 +131,7 @@ pub enum Line {
     Block(usize, Vec<u8>),
     /// A block line behind the first step: not a step.
     Late,
-    Step(Step),
+    Step(Call),
     Other,
 }
 
@@ -138,9 +147,9 @@ impl Reader {
     }
 
     pub fn read(&mut self, line: &[u8]) -> Line {
-        if let Some(step) = parse_step(line) {
+        if let Some(call) = parse_call(line) {
             self.begun = true;
-            return Line::Step(step);
+            return Line::Step(call);
         }
         match parse_block(line, self.n) {
             Some(_) if self.begun => Line::Late,
@@ -177,6 +186,25 @@ impl Step {
             Step::AskAgain { .. } => "again",
             Step::Land { .. } => "land",
             Step::Crash => "crash",
+        }
+    }
+}
+
+impl Call {
+    /// The word its line begins with.
+    pub fn word(&self) -> &'static str {
+        match self {
+            Call::Step(step) => step.word(),
+            Call::Drive => "drive",
+        }
+    }
+}
+
+impl fmt::Display for Call {
+    fn fmt(&self, f: &mut fmt::Formatter) -> fmt::Result {
+        match self {
+            Call::Step(step) => step.fmt(f),
+            Call::Drive => f.write_str(self.word()),
         }
     }
 }

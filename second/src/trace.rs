@@ -147,8 +147,8 @@ pub fn run(input: impl Read, output: impl Write) -> io::Result<bool> {
         let Some(line) = next_line(&mut input, &mut line)? else { break };
         match reader.read(line) {
             Line::Block(k, bytes) => store.disk.journal.put(k, &bytes),
-            Line::Step(step) => {
-                let result = store.step(&step);
+            Line::Step(call) => {
+                let (_, result) = call.take(&mut store);
                 writeln!(output, "{}", row(n, result, &store))?;
             }
             Line::Late | Line::Other => writeln!(output, "line {n} is not a step")?,

@@ -13,6 +13,7 @@ use std::time::Instant;
 use second::coverage::{Seen, BLOCK_LINES, REFUSALS, SITUATIONS, STEPS};
 use second::covered::{Covered, REACHED};
 use second::days::{Day, Options};
+use second::driver::Call;
 use second::layout::Location;
 use second::ledger::Ledger;
 use second::range::{blank, valid_entry, Entry};
@@ -242,9 +243,9 @@ impl Judge {
             return Err("the rows differ".into());
         }
         self.totals.rows += 1;
-        let step = match read {
+        let call = match read {
             None => return Ok(()),
-            Some(Line::Step(step)) => step,
+            Some(Line::Step(call)) => call,
             Some(other) => {
                 if rows[0] != format!("line {n} is not a step") {
                     return Err("this line is not a step".into());
@@ -256,7 +257,7 @@ impl Judge {
                 return Ok(());
             }
         };
-        self.totals.count(&self.first, &step, rows[0], store);
+        let step = self.totals.count(&self.first, &call, rows[0], store);
         self.audits.iter_mut().zip(rows).try_for_each(|(audit, row)| audit.feed(&step, row))
     }
 
@@ -278,14 +279,16 @@ impl Totals {
         *self.situations.entry(name).or_default() += 1;
     }
 
-    /// Counts a step by its row's refusal, and the situations that a store of ours is in with it.
-    fn count(&mut self, first: &Store, step: &Step, row: &str, store: &mut Store) {
+    /// Counts a step by its row's refusal, and the situations that a store of ours is in with it; says which
+    /// step it came to.
+    fn count(&mut self, first: &Store, call: &Call, row: &str, store: &mut Store) -> Step {
         let refusal = row.split(' ').nth(1).unwrap_or("-").to_string();
-        *self.met.entry((step.word(), refusal)).or_default() += 1;
+        *self.met.entry((call.word(), refusal)).or_default() += 1;
         let before = store.clone();
-        let result = store.step(step);
-        let seen = Seen { first, before: &before, step, result, after: store };
+        let (step, result) = call.take(store);
+        let seen = Seen { first, before: &before, step: &step, result, after: store };
         SITUATIONS.iter().filter(|(_, holds)| holds(&seen)).for_each(|(name, _)| self.situation(name));
+        step
     }
 
     fn add(&mut self, other: Totals) {

@@ -8,7 +8,7 @@ use crate::ledger::Ledger;
 use crate::machine::{Phase, Ready, PENDING_BYTES, PENDING_ENTRIES};
 use crate::range::{self, Entry};
 use crate::store::{Step, Store};
-use crate::text::parse_step;
+use crate::text::{parse_call, parse_step};
 use crate::trace::first_store;
 use crate::Refusal;
 
@@ -151,9 +151,9 @@ fn random_days_meet_them() {
         let lines: Vec<String> = Day::new(seed, Options { steps: 300, ledger: true, ill: false }).collect();
         let first = first_store(&lines).expect("a disk");
         let mut store = first.clone();
-        for step in lines.iter().filter_map(|line| parse_step(line.as_bytes())) {
+        for call in lines.iter().filter_map(|line| parse_call(line.as_bytes())) {
             let before = store.clone();
-            let result = store.step(&step);
+            let (step, result) = call.take(&mut store);
             let seen = Seen { first: &first, before: &before, step: &step, result, after: &store };
             met.iter_mut().zip(&situations).for_each(|(count, (_, holds))| *count += u32::from(holds(&seen)));
         }

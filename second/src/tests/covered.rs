@@ -5,7 +5,7 @@ use crate::covered::{Covered, REACHED};
 use crate::ledger::Ledger;
 use crate::machine::Sync;
 use crate::store::{Step, Store};
-use crate::text::parse_step;
+use crate::text::parse_call;
 
 /// A wrong rule: what it does to the requests beside a step that was taken.
 type Wrong = fn(&mut Store, &Step);
@@ -14,8 +14,8 @@ type Wrong = fn(&mut Store, &Step);
 fn played(lines: impl Iterator<Item = String>, mut store: Store, wrong: Wrong) -> Result<[u64; 5], String> {
     let mut covered = Covered::new(Ledger::new(&store));
     for (n, line) in (1..).zip(lines) {
-        let Some(step) = parse_step(line.as_bytes()) else { continue };
-        let result = store.step(&step);
+        let Some(call) = parse_call(line.as_bytes()) else { continue };
+        let (step, result) = call.take(&mut store);
         if result.is_ok() {
             wrong(&mut store, &step);
         }
@@ -82,8 +82,9 @@ fn random_days() {
 fn they_move_in_the_order_of_pushes() {
     for seed in 1..=100 {
         let ((mut store, day), mut pushed) = (random_day(seed), vec![]);
-        for step in day.iter().filter_map(|line| parse_step(line.as_bytes())) {
-            match (store.step(&step), &step) {
+        for call in day.iter().filter_map(|line| parse_call(line.as_bytes())) {
+            let (step, result) = call.take(&mut store);
+            match (result, &step) {
                 (Ok(()), Step::Push { id }) => pushed.push(*id),
                 (Ok(()), Step::Pop { id }) => pushed.retain(|p| p != id),
                 (Ok(()), Step::Crash) => pushed.clear(),

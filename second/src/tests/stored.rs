@@ -7,7 +7,7 @@ use crate::machine::Phase;
 use crate::range::{self, Entry};
 use crate::store::Store;
 use crate::superblock::Superblock;
-use crate::text::{block_line, disk_line, parse_step, Line, Reader};
+use crate::text::{block_line, disk_line, parse_call, parse_step, Line, Reader};
 use crate::trace;
 
 fn rows(lines: &[&str]) -> Vec<String> {
@@ -66,7 +66,7 @@ fn late_block_lines() {
     let mut read = |line: &str| reader.read(line.as_bytes());
     assert_eq!([read("brew"), read("block 8")], [Line::Other, Line::Other]);
     assert_eq!(read("block 1"), Line::Block(1, vec![]));
-    assert_eq!(read("f1"), Line::Step(parse_step(b"f1").unwrap()));
+    assert_eq!(read("f1"), Line::Step(parse_call(b"f1").unwrap()));
     assert_eq!([read("block 1"), read("block 8")], [Line::Late, Line::Other]);
 }
 

@@ -3,7 +3,7 @@
 use super::{loaded, play, random_day};
 use crate::coverage::{Seen, SITUATIONS};
 use crate::store::Store;
-use crate::text::parse_step;
+use crate::text::parse_call;
 
 /// Plays lines that are taken; how many requests are then at State1, State2 and State3.
 fn taken(store: &mut Store, day: &str) -> Vec<[usize; 3]> {
@@ -95,9 +95,9 @@ fn random_days_meet_these_commits() {
     for seed in 1..=100 {
         let (first, day) = random_day(seed);
         let mut store = first.clone();
-        for step in day.iter().filter_map(|line| parse_step(line.as_bytes())) {
+        for call in day.iter().filter_map(|line| parse_call(line.as_bytes())) {
             let before = store.clone();
-            let result = store.step(&step);
+            let (step, result) = call.take(&mut store);
             let seen = Seen { first: &first, before: &before, step: &step, result, after: &store };
             met.iter_mut().zip(&situations).for_each(|(count, (_, holds))| *count += u32::from(holds(&seen)));
         }
