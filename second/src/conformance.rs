@@ -1,12 +1,12 @@
 //! The conformance days: short days, each step with the refusal that document 01 gives it, and one long random day.
 
 use crate::coverage::{REFUSALS, STEPS};
+use crate::driver::Call;
 use crate::handed_conformance;
 use crate::range::Entry;
 use crate::scripts::DAYS;
 use crate::sector_conformance;
-use crate::store::Step;
-use crate::text::{entries_line, parse_step};
+use crate::text::{entries_line, parse_call};
 use crate::trace;
 
 /// A day's name, what it shows, and its lines, parted by commas or line feeds. A step is taken unless
@@ -28,6 +28,9 @@ const LINES: &[(&str, &str)] = &[
     ("@load", "@superblocks, f2"),
     ("@front", "@superblocks, rj 0 3, ar 3, f2"),
     ("@pieces", "@superblocks, rj 0 3, rj 1 4, ar 3, ar 4, f2"),
+    ("@drive-4", "drive, drive, drive, drive"),
+    ("@drive-5", "@drive-4, drive"),
+    ("@drive-6", "@drive-4, drive, drive"),
     ("@64", "add #16x1, add #16x1, add #16x1, add #16x1"),
     ("@16320", "add #16x255, add #16x255, add #16x255, add #16x255"),
 ];
@@ -152,8 +155,8 @@ pub fn days() -> Vec<Conformance> {
 pub fn coverage(days: &[Conformance]) -> Vec<(&'static str, [Option<&'static str>; REFUSALS.len()])> {
     let mut table: Vec<_> = STEPS.iter().map(|(word, _)| (*word, [None; REFUSALS.len()])).collect();
     for day in days.iter().filter(|day| day.name != "long") {
-        for (step, refusal) in answers(day) {
-            let row = table.iter_mut().find(|(word, _)| *word == step.word());
+        for (call, refusal) in answers(day) {
+            let row = table.iter_mut().find(|(word, _)| *word == call.word());
             let cell = REFUSALS.iter().position(|r| *r == refusal);
             if let (Some((_, cells)), Some(cell)) = (row, cell) {
                 cells[cell].get_or_insert(day.name);
@@ -164,12 +167,12 @@ pub fn coverage(days: &[Conformance]) -> Vec<(&'static str, [Option<&'static str
 }
 
 /// A day's steps with their refusals: a row begins with its line's number.
-fn answers(day: &Conformance) -> impl Iterator<Item = (Step, u8)> + '_ {
+fn answers(day: &Conformance) -> impl Iterator<Item = (Call, u8)> + '_ {
     let lines: Vec<&str> = day.input.lines().collect();
     day.rows.lines().filter_map(move |row| {
         let mut numbers = row.split(' ').map(|word| word.parse::<usize>().ok());
         let (line, refusal) = (lines.get(numbers.next()??)?, numbers.next()??);
-        Some((parse_step(line.as_bytes())?, refusal as u8))
+        Some((parse_call(line.as_bytes())?, refusal as u8))
     })
 }
 

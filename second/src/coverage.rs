@@ -11,15 +11,16 @@ use crate::Refusal;
 /// The refusals that have a column; 0 is taken.
 pub const REFUSALS: [u8; 11] = [0, 1, 2, 3, 4, 5, 6, 7, 8, 9, 13];
 
-/// Each step's word, and the refusals that a trace can show of it.
+/// Each step's word, and the refusals that a trace can show of it; what `drive` names has its arguments in range,
+/// its id new or waiting, and room.
 #[rustfmt::skip]
-pub const STEPS: [(&str, &[u8]); 23] = [
+pub const STEPS: [(&str, &[u8]); 24] = [
     ("wj", &[0, 2, 3, 5, 6, 8, 9]), ("aj", &[0, 2, 5]), ("cl", &[0, 2, 3, 6]), ("co", &[0, 2, 3, 6]),
     ("ac", &[0, 2, 5, 6]), ("rs", &[0, 2, 3, 4, 5, 6]), ("as", &[0, 2, 4, 5]), ("xs", &[0, 2, 4, 5]),
     ("rj", &[0, 2, 3, 4, 5, 6]), ("ar", &[0, 2, 5, 6]), ("xr", &[0, 2, 5]), ("f1", &[0, 2, 3, 6]),
     ("f2", &[0, 2, 3, 6, 7]), ("freeze", &[0, 2, 3, 6]), ("loc", &[0, 2, 3, 4, 6]), ("add", &[0, 2, 3, 4, 6, 8, 13]),
     ("replay", &[0, 2, 3, 4, 6]), ("push", &[0, 2, 5, 8]), ("pop", &[0, 2, 5, 6]), ("noop", &[0, 2]),
-    ("again", &[0, 2, 3, 4, 6]), ("land", &[0, 2, 4, 6]), ("crash", &[0, 2]),
+    ("again", &[0, 2, 3, 4, 6]), ("land", &[0, 2, 4, 6]), ("crash", &[0, 2]), ("drive", &[0, 2, 3, 6, 7]),
 ];
 
 /// Can a trace show this step with this refusal?

@@ -1,4 +1,4 @@
-//! The conformance days as scripts, written by hand from document 01; `conformance.rs` says how they are read.
+//! The conformance days as scripts, written by hand from documents 01 and 02; `conformance.rs` says how they are read.
 
 use crate::conformance::Script;
 
@@ -166,6 +166,57 @@ pub(crate) const DAYS: &[Script] = &[
 ("crash-while-loading", "a crash at each point of a load: reads are forgotten and their ids free", "
     @brew, @load, add 41, wj 1, aj 1, cl 2, land 1, crash, rs 0 1, crash, as 0 1 =5, rs 0 1, rs 1 2, as 0 1, crash
     @superblocks, rj 0 1, crash, ar 1 =5, @superblocks, rj 0 1, ar 1, crash, @front, crash, @front, replay 41"),
+// Loads by the driver.
+("drive-empty", "a load by `drive` alone of a journal of no blocks: six lines up to R, the seventh is a 3 (document 02's S-4)", "
+    @brew, @drive-6, drive =3, add 41, crash, @drive-6, drive =3"),
+("drive-one-piece", "the same of a journal without a back piece: eight lines", "
+    @brew, @drive-6, add 41 42, wj 3, aj 3, cl 4, land 1, ac 4, crash, @drive-6, drive, drive, drive =3, replay 41 42"),
+("drive-two-pieces", "the same of a journal round the ring's end: ten lines", "
+    disk 4 4096 0 3 0 24576 4096 0 0 0 24576 4096, @drive-6, add #16x255, wj 5 6, aj 6, aj 5, cl 7, land 1, ac 7, crash
+    @drive-6, drive, drive, drive, drive, drive =3, replay #16x255"),
+("drive-twelve", "the longest load: from a disk that meets `Init` the day brings the journal round the ring's end; after a crash both slots are read damaged, and twelve lines `drive` lead to R: ask again, request and answer of slot 1, of slot 2, `f1`, request and answer of the front, of the back, `f2`; the thirteenth is a 3", "
+    disk 4 4096 0 0 0 24576 4096 0 0 0 24576 4096, @load, add 41, wj 1, aj 1, add 42, wj 1, aj 1, add 43, wj 1, aj 1, freeze, loc 28672 1, co 2, land 1, ac 2
+    add #16x255, wj 1 2, aj 1, aj 2, cl 3, land 0, ac 3, crash, rs 0 1, rs 1 2, xs 0 1, xs 1 2, @drive-6, @drive-6, drive =3, replay #16x255"),
+("drive-names", "what each `drive` named: behind each stand steps by hand whose refusals tell it, a request under id 0, its answer, an end", "
+    disk 4 4096 0 3 0 24576 4096 0 0 0 24576 4096, @load, add #16x255, wj 5 6, aj 5, aj 6, cl 7, land 1, crash
+    drive, rs 0 5 =6, rs 1 0 =5, f1 =6, drive, as 0 0 =5, rs 0 5 =6, drive, rs 1 5 =6, as 1 1 =5, f1 =6, drive, as 1 0 =5, drive, f1 =3, drive, rj 0 5 =6, rj 1 0 =5, f2 =6
+    drive, ar 0 =5, rj 0 5 =6, f2 =6, drive, rj 1 5 =6, ar 5 =5, f2 =6, drive, ar 0 =5, drive, f2 =3, drive =3, replay #16x255"),
+("drive-slots-by-hand", "slots that were asked for, read or read damaged by hand: `drive` takes them up, slot 1 first, under the id that waits; a new id is 1 where slot 2 waits under 0, which its damaged answer shows, else 0", "
+    @brew, rs 0 9, drive, as 0 9 =5, @drive-4, drive =3, crash, rs 1 0, drive, as 0 0 =5, xs 0 1, @drive-6, drive =3, crash, rs 1 1, drive, xs 0 0, @drive-6, drive =3, crash
+    rs 1 9, as 1 9, @drive-4, drive =3, crash, rs 1 9, xs 1 9, drive, drive, again 0 =6, drive, again 1 =6, @drive-4, drive =3, crash, rs 0 9, xs 0 9, rs 1 0, drive, drive, xs 0 1, @drive-6, drive =3, crash
+    rs 0 9, xs 0 9, again 0, @drive-6, drive =3, crash, rs 1 18446744073709551614, rs 0 18446744073709551615, drive, as 0 18446744073709551615 =5, drive, as 1 18446744073709551614 =5, drive, drive, drive =3, crash
+    rs 0 0, rs 1 1, as 1 1, as 0 0, drive, f1 =3, drive, drive =3, crash, @superblocks, drive, drive =3"),
+("drive-pieces-by-hand", "the same of pieces: one that waits, one that is in, one that was read damaged, the back one before the front", "
+    disk 4 4096 0 3 0 24576 4096 0 0 0 24576 4096, @load, add #16x255, wj 5 6, aj 5, aj 6, cl 7, land 1, crash
+    @superblocks, rj 0 9, drive, ar 9 =5, drive, drive, drive, drive =3, crash, @superblocks, rj 1 0, drive, xr 1, @drive-4, drive =3, crash, @superblocks, rj 1 1, drive, xr 0, @drive-4, drive =3, crash
+    @superblocks, rj 1 9, ar 9, drive, drive, drive, drive =3, crash, @superblocks, rj 0 9, ar 9, drive, drive, drive, drive =3, crash, @superblocks, rj 0 5, xr 5, @drive-5, drive =3, crash
+    @superblocks, rj 0 5, rj 1 0, xr 5, drive, xr 1, @drive-4, drive =3, crash, @superblocks, rj 0 5, rj 1 6, ar 5, xr 6, drive, drive, drive, drive =3, crash
+    @superblocks, rj 1 3, rj 0 18446744073709551615, drive, ar 18446744073709551615 =5, drive, drive, drive =3, crash, @superblocks, rj 0 5, rj 1 6, ar 6, ar 5, drive, drive =3, replay #16x255"),
+("drive-sync", "sync requests pushed and popped between: they don't count, their ids aren't ones that the disk holds, and they wait at R as any do; nor do `noop`, refused lines and lines that aren't steps count", "
+    @brew, push 0, drive, rs 1 0 =5, push 1, pop 0 =6, drive, push 0 =5, pop 7 =5, drive, noop, f1 =6, drive, push 2, ? drive 0, drive, add 41 =3, pop 1 =6, drive, drive =3, pop 2 =6
+    freeze, cl 3, land 1, ac 3, pop 0, pop 1, push 3, pop 2, crash, pop 3 =5, push 3, @drive-4, pop 3 =6, push 0, drive, drive, drive =3"),
+("drive-ready", "`drive` at R is a 3 and alters nothing: entries in memory, frozen, in flight, a commit in flight, landed, answered, replay entries left", "
+    @brew, @load, drive =3, push 1, add 41, drive =3, freeze, drive =3, wj 1, drive =3, aj 1, loc 45056 7, drive =3, cl 2, drive =3, land 1, drive =3, ac 2, drive =3, pop 1
+    crash, @front, drive =3, replay 41, drive =3, rs 0 0 =3, as 0 0 =5, f2 =3"),
+("drive-crash", "a crash at each point of a load by `drive`: what was asked for is forgotten, its id free, and the next load is as long as any", "
+    @brew, @load, add 41, wj 1, aj 1, cl 2, land 1, crash, drive, crash, as 0 0 =5, drive, drive, crash, drive, drive, drive, crash, as 1 0 =5, @drive-4, crash, @drive-5, crash, @drive-6, crash, ar 0 =5
+    @drive-6, drive, crash, @drive-6, drive, drive, drive =3, crash, rs 1 0, crash, rs 1 0, xs 1 0, crash, @drive-6, drive, drive, drive =3, replay 41"),
+("drive-stored", "a disk from before, its journal round the ring's end, blank entries in it: ten lines; after a commit and a crash with both slots read damaged twelve", "
+    disk 4 4096 0 2 3 24576 4096 0 0 0 24576 4096, block 2 0100+0200+0102+41+0000, block 3 0200+1000+ff*16, block 0
+    @drive-6, @drive-4, drive =3, replay 41 0000, replay 00*255*16, add 43, wj 5, aj 5, cl 6, land 1, crash, rs 1 3, xs 1 3, rs 0 4, xs 0 4, @drive-6, @drive-6, drive =3, replay 41 0000, replay 00*255*16, replay 43"),
+("drive-unreadable", "a selected journal that was never written (marks 0): the answer that `drive` names is a 6, as often as it is asked; after a damaged answer by hand the piece is asked for again, and that is a 6 too", "
+    disk 4 4096 0 3 2 24576 4096 0 0 0 24576 4096, @drive-6, drive =6, drive =6, ar 0 =6, push 1, drive =6, xr 0, drive, drive =6, rj 1 1, drive =6, xr 0, xr 1, rj 1 0, drive, drive =6, xr 1, xr 0
+    crash, @drive-6, drive =6, drive =6"),
+("drive-unreadable-back", "the same where only the back piece can't be read: the front one is in", "
+    disk 4 4096 0 3 2 24576 4096 0 0 0 24576 4096, block 3 0100+0100+01+41, @drive-6, drive, drive, drive =6, drive =6, ar 0 =6, rj 0 5 =6, xr 0, drive, drive =6, crash"),
+("drive-unparsable", "a stored range with a byte behind its bodies that isn't 0: `drive` names `f2`, a 7, as often as it is asked, before and after a crash", "
+    disk 8 4096 0 0 2 40960 4096 0 0 0 40960 4096, block 0 0100+0100+01+41, block 1 0100+0100+01+42+01
+    @drive-6, drive, drive =7, drive =7, f2 =7, push 9, drive =7, rj 0 0 =6, crash, @drive-6, drive, drive =7, drive =7"),
+("drive-ill", "on a disk with an ill-formed superblock `drive` is a 2, and ends the time of `block` lines as any step does", "
+    disk 8 4096 0 0 9 40960 4096 1 0 0 40960 4096, block 0 0100+0100+01+41, ? drive 0, block 1 00, drive =2, ? block 0 42, drive =2, crash =2, drive =2"),
+("drive-spelling", "`drive` stands alone: with another word, a number too, it isn't a step, and doesn't end the time of `block` lines; `drive` does", "
+    @brew, ? drive 0, ? drive 0 1, ? drive drive, ? drive x, ? drive 41, ? Drive, ? DRIVE, ? drives, ? driv, ? drive0, ? drive;, ? drive ^16385, ? drive 0 ^16384, block 0 41
+    \tdrive\x0c\r, ? block 0 42, ? drive 0, drive ^16384, ? drive 1, drive, drive, drive, ? drive 0, drive\r, ? drive 0, drive =3"),
 // Disks that were written before.
 ("blank-stored", "a disk from before with blank entries: they are loaded and replayed as they are, kept by a log commit with what is added, loaded again after a crash, and dropped by a location commit", "
     disk 8 4096 3 5 1 40960 4096 2 0 0 40960 4096, block 5 0100+0500+010102ff01+41+00+0000+00*255+42
