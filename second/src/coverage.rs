@@ -1,7 +1,7 @@
 //! What a trace can meet: each step's refusals, and situations that random days must bring about.
 
 use crate::layout::Interval;
-use crate::machine::{Advance, Phase, Piece, Ready, PENDING_BYTES, PENDING_ENTRIES, SYNC_REQUESTS};
+use crate::machine::{Advance, Phase, Piece, Ready, Slot, PENDING_BYTES, PENDING_ENTRIES, SYNC_REQUESTS};
 use crate::range::{self, blank, Entry};
 use crate::sound;
 use crate::store::{Step, Store};
@@ -104,6 +104,16 @@ pub const SITUATIONS: &[Situation] = &[
     ("a replay takes stored blank entries", |s| s.taken() && matches!(s.step, Step::Replay(e) if e.iter().any(blank))),
     ("6: a replay of another entry where a blank one is next", |s| s.refused(Refusal::Condition) && s.misses_blank()),
     ("a location commit drops stored blank entries", |s| s.answered(|c, r| c.advance == Advance::Location && s.drops_blank(r))),
+    ("`drive` turns a corrupt slot back, the other one isn't", |s| s.drives() && matches!(s.step, Step::AskAgain { .. }) && !s.slots(|slots| slots == [Slot::Corrupt; 2])),
+    ("`drive` turns a corrupt slot back, the other one is too", |s| s.drives() && s.slots(|slots| slots == [Slot::Corrupt; 2])),
+    ("`drive` asks for slot 1, slot 2 is read", |s| s.drives() && s.slots(|slots| matches!(slots, [Slot::Unread, Slot::Read(_)]))),
+    ("`drive` asks for slot 1 under id 1, slot 2 waits under 0", |s| s.drives() && matches!(s.step, Step::ReadSuperblock { which: 0, id: 1 })),
+    ("`drive` answers a slot that waits under an id above 1", |s| s.drives() && matches!(s.step, Step::SuperblockRead { id: 2.., .. })),
+    ("`drive` asks for the front piece, the back one is in", |s| s.drives() && s.pieces(|pieces| matches!(pieces, [Piece::Unread, Piece::In(_)]))),
+    ("`drive` asks for the front piece under id 1, the back one waits under 0", |s| s.drives() && matches!(s.step, Step::ReadJournal { which: 0, id: 1 })),
+    ("`drive` answers a piece that waits under an id above 1", |s| s.drives() && matches!(s.step, Step::JournalRead { id: 2.., .. })),
+    ("3: `drive` before the replay's end", |s| s.driven && s.ready(|r| !r.replay_left().is_empty())),
+    ("3: `drive` with a commit in flight", |s| s.driven && s.ready(|r| r.commit.is_some())),
 ];
 
 fn pending_bytes(r: &Ready) -> usize {
@@ -124,6 +134,8 @@ pub struct Seen<'a> {
     pub first: &'a Store,
     pub before: &'a Store,
     pub step: &'a Step,
+    /// Was it `drive` that named the step?
+    pub driven: bool,
     pub result: Result<(), Refusal>,
     pub after: &'a Store,
 }
@@ -135,6 +147,19 @@ impl Seen<'_> {
 
     fn refused(&self, refusal: Refusal) -> bool {
         self.result == Err(refusal)
+    }
+
+    /// `drive`, and the step that it named is taken.
+    fn drives(&self) -> bool {
+        self.driven && self.taken()
+    }
+
+    fn slots(&self, holds: impl Fn([Slot; 2]) -> bool) -> bool {
+        matches!(self.before.machine.phase, Phase::Superblocks(slots) if holds(slots))
+    }
+
+    fn pieces(&self, holds: impl Fn(&[Piece; 2]) -> bool) -> bool {
+        matches!(&self.before.machine.phase, Phase::Journal(loading) if holds(&loading.pieces))
     }
 
     fn wrote(&self) -> bool {

@@ -3,6 +3,7 @@
 
 use std::collections::VecDeque;
 
+use crate::driver::Call;
 use crate::layout::{Geometry, Interval, Location};
 use crate::ledger::Ledger;
 use crate::machine::{Machine, Phase, Piece, Ready, Slot, Sync, PENDING_BYTES, STEP_ENTRIES};
@@ -63,6 +64,19 @@ enum Mood {
     Queue,
 }
 
+/// How a load goes; chosen anew at each crash, and where it gets stuck.
+#[derive(Clone, Copy, Debug, PartialEq, Eq)]
+enum Load {
+    /// By hand, seldom a `drive` among its steps.
+    ByHand,
+    /// By hand and by `drive` in turn.
+    Mixed,
+    /// By `drive`, sync requests between.
+    Driven,
+    /// By hand until both slots were read damaged, then by `drive`.
+    Damaged,
+}
+
 #[derive(Clone, Copy, Debug, PartialEq, Eq)]
 pub struct Options {
     pub steps: usize,
@@ -82,7 +96,8 @@ pub struct Day {
     store: Store,
     ledger: Option<Ledger>,
     mood: (Mood, u64),
-    script: VecDeque<Step>,
+    load: Load,
+    script: VecDeque<Call>,
     left: usize,
 }
 
@@ -155,12 +170,27 @@ fn location(rng: &mut Rng, g: Geometry) -> Location {
     Location { addr: rng.of(&g.tables()), len }
 }
 
+fn load(rng: &mut Rng) -> Load {
+    use Load::*;
+    rng.of(&[ByHand, ByHand, Mixed, Mixed, Driven, Driven, Damaged])
+}
+
+/// A weight for what is wanted now, else another.
+fn many(wanted: bool, often: u64, seldom: u64) -> u64 {
+    if wanted {
+        often
+    } else {
+        seldom
+    }
+}
+
 impl Day {
     pub fn new(seed: u64, options: Options) -> Self {
         let mut rng = Rng::new(seed);
         let first = first_lines(&mut rng, options.ill);
         let store = first_store(&first).expect("a disk");
         Day {
+            load: load(&mut rng),
             rng,
             options,
             first,
@@ -332,7 +362,11 @@ impl Day {
             Phase::Superblocks(slots) => {
                 for (slot, which) in slots.into_iter().zip(0..) {
                     match slot {
-                        Slot::Unread => steps.push((20, Step::ReadSuperblock { which, id })),
+                        Slot::Unread => {
+                            steps.push((20, Step::ReadSuperblock { which, id }));
+                            // The least id is taken before slot 1 is asked for.
+                            steps.push((4 * which, Step::ReadSuperblock { which, id: 0 }));
+                        }
                         Slot::Asked(id) => {
                             steps.push((20, Step::SuperblockRead { which, id, whole: true }));
                             steps.push((2, Step::SuperblockRead { which, id, whole: false }));
@@ -351,6 +385,7 @@ impl Day {
                     match piece {
                         Piece::Unread if interval.is_some() => {
                             steps.push((20, Step::ReadJournal { which, id }));
+                            steps.push((20 * which, Step::ReadJournal { which, id: 0 }));
                             if let Piece::Asked(id) = loading.pieces[1 - which as usize] {
                                 steps.push((6, Step::ReadJournal { which, id }));
                             }
@@ -381,14 +416,17 @@ impl Day {
                     steps.push((5, Step::SuperblockWritten { id: commit.id }));
                 }
             }
-            Phase::Ready(r) => self.working(&r, &mut steps),
+            Phase::Ready(r) => {
+                // A journal in two pieces is loaded more often.
+                steps.push((many(g.wraps(r.superblock.journal()), 6, 0), Step::Crash));
+                self.working(&r, &mut steps);
+            }
         }
         steps
     }
 
     fn working(&mut self, r: &Ready, steps: &mut Vec<(u64, Step)>) {
         let (g, mood, id) = (self.store.geometry, self.mood.0, self.id());
-        let many = |wanted: bool, often, seldom| if wanted { often } else { seldom };
         let burst = matches!(mood, Mood::Crowd | Mood::Flood);
         steps.push((many(burst, 150, 12), Step::Add(self.added(many(burst, 30, 12)))));
         if !r.outgoing().is_empty() {
@@ -432,7 +470,38 @@ impl Day {
         }
     }
 
-    fn choose(&mut self) -> Step {
+    /// The next step by which both slots are read damaged.
+    fn damaging(&mut self) -> Option<Step> {
+        let Phase::Superblocks(slots) = self.store.machine.phase else { return None };
+        slots.into_iter().zip(0..).find_map(|(slot, which)| match slot {
+            Slot::Unread => Some(Step::ReadSuperblock { which, id: self.id() }),
+            Slot::Asked(id) => Some(Step::SuperblockRead { which, id, whole: false }),
+            _ => None,
+        })
+    }
+
+    /// A line of a load that goes by `drive`; none where another line is due.
+    fn driving(&mut self) -> Option<Call> {
+        match self.load {
+            Load::ByHand => self.rng.one_in(20).then_some(Call::Drive),
+            Load::Mixed => self.rng.one_in(3).then_some(Call::Drive),
+            Load::Damaged => match self.damaging() {
+                Some(step) => Some(Call::Step(step)),
+                None => {
+                    self.load = Load::Driven;
+                    Some(Call::Drive)
+                }
+            },
+            Load::Driven => match self.rng.below(40) {
+                0 => None,
+                1..=3 => Some(Call::Step(Step::Push { id: self.id() })),
+                4 => Some(Call::Step(Step::Pop { id: self.used_id() })),
+                _ => Some(Call::Drive),
+            },
+        }
+    }
+
+    fn choose(&mut self) -> Call {
         if self.mood.1 == 0 {
             use Mood::*;
             let moods = [Steady, Hoard, Hoard, Crowd, Flood, Turn, Turn, Queue];
@@ -441,18 +510,21 @@ impl Day {
         }
         self.mood.1 -= 1;
         let ready = matches!(self.store.machine.phase, Phase::Ready(_));
+        if let Some(call) = if ready { None } else { self.driving() } {
+            return call;
+        }
         if self.rng.one_in(if ready { 10 } else { 4 }) {
-            return self.wild();
+            return if self.rng.one_in(20) { Call::Drive } else { Call::Step(self.wild()) };
         }
         let steps = self.useful();
         let mut at = self.rng.below(steps.iter().map(|(weight, _)| weight).sum());
         for (weight, step) in steps {
             if at < weight {
-                return step;
+                return Call::Step(step);
             }
             at -= weight;
         }
-        Step::NoOp
+        Call::Step(Step::NoOp)
     }
 
     /// A line that isn't a step.
@@ -462,29 +534,64 @@ impl Day {
         self.rng.of(&lines).to_string()
     }
 
-    /// Loads by whole reads, replays the ledger, shows its location, and crashes again.
-    fn showing(&self, ledger: &Ledger) -> VecDeque<Step> {
+    /// What is done by hand before a load goes by `drive`, and how many lines are left then: the back piece of two is
+    /// asked for under the least id, or in; or slots are read damaged, both and two pieces being the longest load.
+    fn begun(&mut self, pieces: usize) -> (Vec<Step>, usize) {
+        if pieces == 2 && self.rng.one_in(4) {
+            let back = [Step::ReadJournal { which: 1, id: 0 }, Step::JournalRead { id: 0, whole: true }];
+            let done = 1 + self.rng.below(2) as usize;
+            return ([&whole_slots()[..], &back[..done]].concat(), 5 - done);
+        }
+        let some: [&[u64]; 6] = [&[], &[], &[0], &[1], &[0, 1], &[1, 0]];
+        let damaged = if pieces == 2 && self.rng.one_in(2) { some[4] } else { self.rng.of(&some) };
+        let slot = |which: &u64| {
+            let (which, id) = (*which, self.id());
+            [Step::ReadSuperblock { which, id }, Step::SuperblockRead { which, id, whole: false }]
+        };
+        (damaged.iter().flat_map(slot).collect(), 6 + damaged.len() + 2 * pieces)
+    }
+
+    /// A load of so many pieces by `drive`, up to R, sync requests between.
+    fn drives(&mut self, pieces: usize) -> Vec<Call> {
+        let (steps, lines) = self.begun(pieces);
+        let mut calls: Vec<Call> = steps.into_iter().map(Call::Step).collect();
+        for _ in 0..lines {
+            if self.rng.one_in(12) {
+                calls.push(Call::Step(Step::Push { id: self.id() }));
+            }
+            calls.push(Call::Drive);
+        }
+        calls
+    }
+
+    /// Loads by whole reads or by `drive`, replays the ledger, shows its location, and crashes again.
+    fn showing(&mut self, ledger: &Ledger) -> VecDeque<Call> {
         let g = self.store.geometry;
         let journal = Interval::new(ledger.start, ledger.len());
-        let mut steps = VecDeque::new();
-        steps.extend([0, 1].map(|which| Step::ReadSuperblock { which, id: which }));
-        steps.extend([0, 1].map(|which| Step::SuperblockRead { which, id: which, whole: true }));
-        steps.push_back(Step::FinishSuperblocks);
-        for (piece, which) in [g.front(journal), g.back(journal)].into_iter().zip(0..) {
-            if piece.is_some() {
-                steps.push_back(Step::ReadJournal { which, id: which });
-                steps.push_back(Step::JournalRead { id: which, whole: true });
-            }
-        }
-        steps.push_back(Step::FinishJournal);
+        let pieces = (0..).zip([g.front(journal), g.back(journal)]);
+        let pieces: Vec<u64> = pieces.filter_map(|(which, piece)| piece.map(|_| which)).collect();
+        let mut calls = if self.rng.one_in(3) { whole_reads(&pieces) } else { self.drives(pieces.len()) };
         let entries: Vec<Entry> = ledger.entries().cloned().collect();
-        steps.extend(entries.chunks(STEP_ENTRIES).map(|c| Step::Replay(c.to_vec())));
-        steps.push_back(Step::Freeze);
-        steps.push_back(Step::ReceiveLocation(ledger.table));
-        steps.push_back(Step::Freeze);
-        steps.push_back(Step::Crash);
-        steps
+        let replays = entries.chunks(STEP_ENTRIES).map(|c| Step::Replay(c.to_vec()));
+        let last = [Step::Freeze, Step::ReceiveLocation(ledger.table), Step::Freeze, Step::Crash];
+        calls.extend(replays.chain(last).map(Call::Step));
+        calls.into()
     }
+}
+
+/// Both slots by whole reads, and the first end.
+fn whole_slots() -> [Step; 5] {
+    let asked = |which| Step::ReadSuperblock { which, id: which };
+    let whole = |which| Step::SuperblockRead { which, id: which, whole: true };
+    [asked(0), asked(1), whole(0), whole(1), Step::FinishSuperblocks]
+}
+
+/// A load of these pieces by whole reads.
+fn whole_reads(pieces: &[u64]) -> Vec<Call> {
+    let piece =
+        |&which: &u64| [Step::ReadJournal { which, id: which }, Step::JournalRead { id: which, whole: true }];
+    let pieces = pieces.iter().flat_map(piece);
+    whole_slots().into_iter().chain(pieces).chain([Step::FinishJournal]).map(Call::Step).collect()
 }
 
 /// The line, now and then with other blanks and capital digits.
@@ -523,6 +630,9 @@ const NONSENSE: &[&str] = &[
     "freeze 1",
     "Add 41",
     "disk 8 4096",
+    "drive 0",
+    "drive drive",
+    "Drive",
 ];
 
 /// Lines that say what a block holds, on any disk, but not behind its first step.
@@ -537,8 +647,8 @@ impl Iterator for Day {
         }
         let scripted = self.script.pop_front();
         let showing = scripted.is_some();
-        let step = match scripted {
-            Some(step) => step,
+        let call = match scripted {
+            Some(call) => call,
             None => {
                 self.left = self.left.checked_sub(1)?;
                 // More often as the second line: there a block line is late by one step.
@@ -555,13 +665,19 @@ impl Iterator for Day {
             }
         };
         self.begun = true;
-        let refused = self.store.step(&step).is_err();
+        let (step, result) = call.take(&mut self.store);
+        let refused = result.is_err();
         if let Some(ledger) = &mut self.ledger {
             ledger.feed(&step, refused);
         }
-        if self.options.ledger && !showing && !refused && step == Step::Crash {
-            self.script = self.ledger.as_ref().map(|l| self.showing(l)).unwrap_or_default();
+        let crashed = !refused && step == Step::Crash;
+        let stuck = refused && (call == Call::Drive || self.load == Load::Damaged);
+        if crashed || stuck {
+            self.load = load(&mut self.rng);
         }
-        Some(spelled(&mut self.rng, step.to_string()))
+        if self.options.ledger && !showing && crashed {
+            self.script = self.ledger.clone().map(|l| self.showing(&l)).unwrap_or_default();
+        }
+        Some(spelled(&mut self.rng, call.to_string()))
     }
 }

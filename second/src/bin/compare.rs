@@ -286,7 +286,8 @@ impl Totals {
         *self.met.entry((call.word(), refusal)).or_default() += 1;
         let before = store.clone();
         let (step, result) = call.take(store);
-        let seen = Seen { first, before: &before, step: &step, result, after: store };
+        let seen =
+            Seen { first, before: &before, step: &step, driven: *call == Call::Drive, result, after: store };
         SITUATIONS.iter().filter(|(_, holds)| holds(&seen)).for_each(|(name, _)| self.situation(name));
         step
     }

@@ -4,6 +4,7 @@ use super::stored::stored;
 use super::{loaded, play, reload};
 use crate::coverage::{Seen, SITUATIONS};
 use crate::days::{Day, Options};
+use crate::driver::Call;
 use crate::ledger::Ledger;
 use crate::machine::{Phase, Ready, PENDING_BYTES, PENDING_ENTRIES};
 use crate::range::{self, Entry};
@@ -154,7 +155,8 @@ fn random_days_meet_them() {
         for call in lines.iter().filter_map(|line| parse_call(line.as_bytes())) {
             let before = store.clone();
             let (step, result) = call.take(&mut store);
-            let seen = Seen { first: &first, before: &before, step: &step, result, after: &store };
+            let driven = call == Call::Drive;
+            let seen = Seen { first: &first, before: &before, step: &step, driven, result, after: &store };
             met.iter_mut().zip(&situations).for_each(|(count, (_, holds))| *count += u32::from(holds(&seen)));
         }
     }

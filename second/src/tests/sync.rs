@@ -2,6 +2,7 @@
 
 use super::{loaded, play, random_day};
 use crate::coverage::{Seen, SITUATIONS};
+use crate::driver::Call;
 use crate::store::Store;
 use crate::text::parse_call;
 
@@ -98,7 +99,8 @@ fn random_days_meet_these_commits() {
         for call in day.iter().filter_map(|line| parse_call(line.as_bytes())) {
             let before = store.clone();
             let (step, result) = call.take(&mut store);
-            let seen = Seen { first: &first, before: &before, step: &step, result, after: &store };
+            let driven = call == Call::Drive;
+            let seen = Seen { first: &first, before: &before, step: &step, driven, result, after: &store };
             met.iter_mut().zip(&situations).for_each(|(count, (_, holds))| *count += u32::from(holds(&seen)));
         }
     }
