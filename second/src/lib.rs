@@ -8,6 +8,7 @@ pub mod coverage;
 pub mod covered;
 pub mod days;
 pub mod disk;
+pub mod driven;
 pub mod driver;
 pub mod handed;
 mod handed_cases;

@@ -97,6 +97,13 @@ pub fn system(store: &Store) -> bool {
         && Awaited::by(&store.machine, g) == Awaited::at(held)
 }
 
+/// 004's `Init`: a machine at its start, no request, both slots well formed, the selected journal of no blocks at
+/// block 0. What the blocks hold isn't asked.
+pub fn init(store: &Store) -> bool {
+    let selected = slots(store).map(|slots| slots[Superblock::select(&slots)].journal());
+    system(store) && store.machine == Machine::new(store.geometry) && selected == Some(Interval::new(0, 0))
+}
+
 /// Both superblocks.
 pub fn slots(store: &Store) -> Option<[Superblock; 2]> {
     let [one, two] = store.disk.slots;

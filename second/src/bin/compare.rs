@@ -1,5 +1,6 @@
 //! Plays random days through two trace programs and compares every row; checks each load against the
-//! ledger, worked out from the lines and the refusals alone, and each request at State1 by its landings.
+//! ledger, worked out from the lines and the refusals alone, each request at State1 by its landings, and each load
+//! by `drive` for its length.
 #![forbid(unsafe_code)]
 
 use std::collections::BTreeMap;
@@ -13,6 +14,7 @@ use std::time::Instant;
 use second::coverage::{Seen, BLOCK_LINES, REFUSALS, SITUATIONS, STEPS};
 use second::covered::{Covered, REACHED};
 use second::days::{Day, Options};
+use second::driven::{Driven, DRIVEN};
 use second::driver::Call;
 use second::layout::Location;
 use second::ledger::Ledger;
@@ -110,10 +112,21 @@ fn blank_is_told(step: &Step, refusal: &str) -> Result<(), String> {
     }
 }
 
-/// The ledger beside one program's rows, and what its landings covered.
+/// The step as the ledger hears it. Of what `drive` names only a load's end is of use to it, and that alone is taken
+/// with a row at R.
+fn heard(call: &Call, taken: bool, kind: char) -> Step {
+    match call {
+        Call::Step(step) => step.clone(),
+        Call::Drive if taken && kind == 'R' => Step::FinishJournal,
+        Call::Drive => Step::NoOp,
+    }
+}
+
+/// The ledger beside one program's rows, what its landings covered, and how its loads by `drive` went.
 struct Audit {
     ledger: Option<Ledger>,
     covered: Covered,
+    driven: Driven,
     loaded: Option<Loaded>,
     loads: u64,
 }
@@ -121,21 +134,28 @@ struct Audit {
 impl Audit {
     fn new(first: &Store) -> Self {
         let ledger = Ledger::new(first);
-        Audit { covered: Covered::new(ledger.clone()), ledger, loaded: None, loads: 0 }
+        let (covered, driven) = (Covered::new(ledger.clone()), Driven::new(first));
+        Audit { covered, driven, ledger, loaded: None, loads: 0 }
     }
 
-    /// Takes a step and its row; says what is not the ledger's, or which request isn't covered.
-    fn feed(&mut self, step: &Step, row: &str) -> Result<(), String> {
+    /// Takes a step and its row; says what is not the ledger's, which request isn't covered, or what `drive` may
+    /// not do.
+    fn feed(&mut self, call: &Call, row: &str) -> Result<(), String> {
         let columns: Vec<&str> = row.split(' ').collect();
-        let &[_, r, _, c, s, l, w, _, _, _, _, _, y, q1, q2, q3, _] = columns.as_slice() else {
+        let &[_, r, k, c, s, l, w, _, _, _, _, _, y, q1, q2, q3, _] = columns.as_slice() else {
             return Err("no row".into());
         };
         let [Ok(q1), Ok(q2), Ok(q3)] = [q1, q2, q3].map(|q| q.parse::<u8>().map(usize::from)) else {
             return Err("no number of sync requests".into());
         };
-        blank_is_told(step, r)?;
-        self.covered.feed(step, r != "0", [q1, q2, q3])?;
-        self.shown(step, r == "0", [c, s, l, w, y])
+        let (Ok(refusal), Ok(kind)) = (r.parse(), k.parse()) else {
+            return Err("no refusal or no kind".into());
+        };
+        self.driven.feed(call, refusal, kind)?;
+        let step = heard(call, refusal == 0, kind);
+        blank_is_told(&step, r)?;
+        self.covered.feed(&step, refusal > 0, [q1, q2, q3])?;
+        self.shown(&step, refusal == 0, [c, s, l, w, y])
     }
 
     /// What a load shows, and the steps after it that tell more of it.
@@ -257,21 +277,23 @@ impl Judge {
                 return Ok(());
             }
         };
-        let step = self.totals.count(&self.first, &call, rows[0], store);
-        self.audits.iter_mut().zip(rows).try_for_each(|(audit, row)| audit.feed(&step, row))
+        self.totals.count(&self.first, &call, rows[0], store);
+        self.audits.iter_mut().zip(rows).try_for_each(|(audit, row)| audit.feed(&call, row))
     }
 
     fn counts(mut self) -> Totals {
         self.totals.loads = self.audits.iter().map(|a| a.loads).sum();
         let reached = self.audits.first().map_or([0; REACHED.len()], |a| a.covered.reached);
-        self.totals.situations.extend(REACHED.into_iter().zip(reached).filter(|(_, count)| *count > 0));
+        let driven = self.audits.first().map_or([0; DRIVEN.len()], |a| a.driven.met);
+        let counts = REACHED.into_iter().zip(reached).chain(DRIVEN.into_iter().zip(driven));
+        self.totals.situations.extend(counts.filter(|(_, count)| *count > 0));
         self.totals
     }
 }
 
 /// What is counted beside steps and refusals.
 fn situations() -> impl Iterator<Item = &'static str> {
-    SITUATIONS.iter().map(|(name, _)| *name).chain(BLOCK_LINES).chain(REACHED)
+    SITUATIONS.iter().map(|(name, _)| *name).chain(BLOCK_LINES).chain(REACHED).chain(DRIVEN)
 }
 
 impl Totals {
@@ -279,9 +301,8 @@ impl Totals {
         *self.situations.entry(name).or_default() += 1;
     }
 
-    /// Counts a step by its row's refusal, and the situations that a store of ours is in with it; says which
-    /// step it came to.
-    fn count(&mut self, first: &Store, call: &Call, row: &str, store: &mut Store) -> Step {
+    /// Counts a step by its row's refusal, and the situations that a store of ours is in with it.
+    fn count(&mut self, first: &Store, call: &Call, row: &str, store: &mut Store) {
         let refusal = row.split(' ').nth(1).unwrap_or("-").to_string();
         *self.met.entry((call.word(), refusal)).or_default() += 1;
         let before = store.clone();
@@ -289,7 +310,6 @@ impl Totals {
         let seen =
             Seen { first, before: &before, step: &step, driven: *call == Call::Drive, result, after: store };
         SITUATIONS.iter().filter(|(_, holds)| holds(&seen)).for_each(|(name, _)| self.situation(name));
-        step
     }
 
     fn add(&mut self, other: Totals) {
