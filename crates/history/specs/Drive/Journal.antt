@@ -3,7 +3,6 @@
 use Prim.Native.Nat.{ℕ, suc}
 use mathlib.Core.Bool.{Bool, true, false, not}
 use mathlib.Core.Path.{_≡_, refl, sym, _∙_, ap}
-use mathlib.Core.List.{[]}
 use mathlib.Core.Option.{Option, none, some, Option·some-injective}
 use native.Mathlib.Omega.{arith}
 use Rattle.laws.specs.Choice.{by-eqb}
@@ -16,22 +15,23 @@ use Rattle.interval.specs.Facts.{ContiguousJournalInterval}
 use Rattle.interval.specs.Journal.{CyclicSlice, fullRange}
 use Rattle.superblock.specs.declared.Superblock.{Superblock}
 use Rattle.superblock.specs.Laws.{WFSuperblock}
-use Rattle.laws.specs.Sets.{no-ids, none-few, bind, unbind, Two, at, put, none-some, at-put, at-put-other}
+use Rattle.laws.specs.Sets.{none-few, bind, unbind, Two, at, put, none-some, at-put, at-put-other}
 use Rattle.codec.specs.Codec.{JournalRange, Codec, Disk-JournalRange}
 use Rattle.codec.specs.Ranges.{codes, whole, whole-full, whole-same, length-codes, parse-codes}
 use Rattle.source.specs.JournalDisk as D
-use Rattle.source.specs.JournalDisk.{ReqId, ReqReadJournalOp, RespReadJournalOp, NoDiskOp}
+use Rattle.source.specs.JournalDisk.{ReqId, ReqReadJournalOp, RespReadJournalOp}
 use Rattle.source.specs.JournalCache as M
-use Rattle.source.specs.JournalCache.{PageInJournalReqStep, PageInJournalRespStep, FinishLoadingOtherPhaseStep, journalIntervalOfSuperblock, unlessIs, loaded, CommitNone}
+use Rattle.source.specs.JournalCache.{PageInJournalReqStep, PageInJournalRespStep, journalIntervalOfSuperblock, unlessIs, loaded}
 use Rattle.source.specs.JournalSystem as Y
 use Rattle.source.specs.Limits.{Limits}
 use Rattle.source.specs.Meets.{SystemMeets}
 use Rattle.source.specs.Departures.{Source, MachineStep}
 use Rattle.source.specs.Laws.Pieces.{piece-contiguous}
 use Rattle.history.specs.Ledger.{Call, readJournal, journalRead, finishOther, Ledger, shown}
-use Rattle.history.specs.Statement.{tied-page, tied-paged, tied-finish-other}
+use Rattle.history.specs.Statement.{tied-page, tied-paged}
 use Rattle.history.specs.Simulation.Relation.{Paged, Sim}
 use Rattle.history.specs.Simulation.Steps.{reads-stand}
+use Rattle.history.specs.Calls.Finish.{loadedWith, PieceIn, finish-takes}
 use Rattle.history.specs.Whole.Reloaded.{loaded-whole}
 use Rattle.history.specs.Loads.Journal.{piece-full}
 use Rattle.history.specs.Driver.{pieceNext, orElse, nextCall, New, pieceLeft, piecesLeft, leftAt, left}
@@ -197,61 +197,21 @@ module _ (g : Geometry) (C : Codec) (L : Limits) (p : ℕ) (s : M.LoadingOtherVa
         go : piecesLeft g s which ≡ suc (piecesLeft g t which)
         go = omega (arith, now, was)
 
-    abbrev Has : Bool → Type 0
-    Has which = (u : JournalInterval) → part which ≡ some u → (jr : JournalRange) × (at (s .journalPieces) which ≡ some jr)
-
-    none-left : (which : Bool) → Has which → piecesLeft g s which ≡ 0
+    none-left : (which : Bool) → PieceIn g s which → piecesLeft g s which ≡ 0
     none-left which has = go (part which) refl
       where
         go : (o : Option JournalInterval) → part which ≡ o → piecesLeft g s which ≡ 0
         go none e = λ i. pieceLeft (e i) (at (s .journalReads) which) (at (s .journalPieces) which)
         go (some u) e = λ i. pieceLeft (e i) (at (s .journalReads) which) (has u e .1 i)
 
-    end-driven : Has false → Has true → Driven g C L here finishOther
+    end-driven : PieceIn g s false → PieceIn g s true → Driven g C L here finishOther
     unfolding sum lengths
     end-driven front back =
         record {
-          next = record { machine = M.Variables.Ready ready; disk = d };
+          next = record { machine = M.Variables.Ready (loadedWith s (shown C l .entries)); disk = d };
           moves =
               record {
-                takes =
-                    record {
-                      event = MachineStep NoDiskOp (Source FinishLoadingOtherPhaseStep);
-                      tied = tied-finish-other;
-                      allowed =
-                          record {
-                            meets = meets;
-                            step =
-                                record {
-                                  machine =
-                                      record {
-                                        source =
-                                            record {
-                                              op = refl;
-                                              start-in = wf .start-in;
-                                              len-in = wf .len-in;
-                                              front-in = front;
-                                              back-in = back;
-                                              superblockWrite-is = refl;
-                                              inMemoryJournalFrozen-is = refl;
-                                              inMemoryJournal-is = refl;
-                                              outstandingJournalWrites-is = refl;
-                                              writtenJournalLen-is = refl;
-                                              parses = ap (C .parseJournalRange) blocks-are ∙ parse-codes C (l .kept .ranges) (z .disk .good);
-                                              superblock-is = refl;
-                                              whichSuperblock-is = refl;
-                                              newSuperblock-is = refl;
-                                              syncReqs-is = refl;
-                                              isFrozen-is = refl;
-                                              frozenLoc-is = refl;
-                                              commitStatus-is = refl;
-                                            };
-                                        position-is = refl;
-                                      };
-                                  disk = record { next = refl };
-                                };
-                          };
-                    };
+                takes = finish-takes g C L s d (shown C l .entries) meets front back (ap (C .parseJournalRange) blocks-are ∙ parse-codes C (l .kept .ranges) (z .disk .good));
                 counts = record { sync-few = meets .machine .counts .sync-few; writes-few = none-few (L .outstandingJournalWrites); pending-few = omega arith; pending-small = omega arith };
                 unwritten = refl;
                 arguments = record { few = omega arith; fit = tt };
@@ -266,29 +226,10 @@ module _ (g : Geometry) (C : Codec) (L : Limits) (p : ℕ) (s : M.LoadingOtherVa
         blocks-are =
             whole-same (loaded g s) (codes C (l .kept .ranges)) (loaded-whole g s (d .journal) (z .disk .size) (wf .start-in) (wf .len-in) (paged .pieces-are) front back ∙ spans)
 
-        ready : M.ReadyVariables
-        ready =
-            record {
-              frozenLoc = none;
-              isFrozen = false;
-              frozenJournalPosition = 0;
-              superblockWrite = none;
-              inMemoryJournalFrozen = [];
-              inMemoryJournal = [];
-              outstandingJournalWrites = no-ids;
-              writtenJournalLen = s .superblock .journalLen;
-              replayJournal = shown C l .entries;
-              superblock = s .superblock;
-              whichSuperblock = s .whichSuperblock;
-              commitStatus = CommitNone;
-              newSuperblock = none;
-              syncReqs = s .syncReqs;
-            }
-
     -- the call that a piece names is taken; else it is in, if it is there at all
     data Page (new : ReqId) (which : Bool) : Type 0 where
       names : (x : Call) → pieceNext new which (part which) (at (s .journalReads) which) (at (s .journalPieces) which) ≡ some x → Driven g C L here x → Page new which
-      through : pieceNext new which (part which) (at (s .journalReads) which) (at (s .journalPieces) which) ≡ none → Has which → Page new which
+      through : pieceNext new which (part which) (at (s .journalReads) which) (at (s .journalPieces) which) ≡ none → PieceIn g s which → Page new which
 
     page : (which : Bool) (new : ReqId) → New d new → Page new which
     page which new fresh = go (part which) (at (s .journalReads) which) (at (s .journalPieces) which) refl refl refl
@@ -305,7 +246,7 @@ module _ (g : Geometry) (C : Codec) (L : Limits) (p : ℕ) (s : M.LoadingOtherVa
         n2 : Option Call
         n2 = pieceNext new true (part true) (at (s .journalReads) true) (at (s .journalPieces) true)
 
-        second : Has false → pieceNext new false (part false) (at (s .journalReads) false) (at (s .journalPieces) false) ≡ none → Page new true
+        second : PieceIn g s false → pieceNext new false (part false) (at (s .journalReads) false) (at (s .journalPieces) false) ≡ none → Page new true
             → (x : Call) × (nextCall g (M.Variables.LoadingOther s) new ≡ some x) × Driven g C L here x
         second a e (names x f h) = (x, λ i. some (orElse (e i) (orElse (f i) finishOther)), h)
         second a e (through f b) = (finishOther, λ i. some (orElse (e i) (orElse (f i) finishOther)), end-driven a b)

@@ -12,16 +12,17 @@ use Rattle.superblock.specs.Laws.{WFSuperblock}
 use Rattle.laws.specs.Sets.{Ids, no-ids, no-keys, AtMost, none-few, Two, both, at, put, none-some, at-both}
 use Rattle.source.specs.JournalDisk.{RespReadSuperblockOp, NoDiskOp}
 use Rattle.source.specs.JournalCache as M
-use Rattle.source.specs.JournalCache.{SuperblockReadResult, SuperblockSuccess, SuperblockUnfinished, SuperblockCorruption, PageInSuperblockRespStep, FinishLoadingSuperblockPhaseStep, FinishLoadingOtherPhaseStep}
+use Rattle.source.specs.JournalCache.{SuperblockReadResult, SuperblockSuccess, SuperblockUnfinished, SuperblockCorruption, PageInSuperblockRespStep, FinishLoadingSuperblockPhaseStep}
 use Rattle.source.specs.JournalSystem as Y
 use Rattle.source.specs.Limits.{limits, DiskCounts}
 use Rattle.source.specs.Departures.{Source, AskAgainStep, MachineStep}
 use Rattle.history.specs.Ledger.{superblockRead, finishSuperblocks, finishOther, askAgain, readSuperblock}
 use Rattle.history.specs.Journal.Slots.{Slots}
 use Rattle.history.specs.Simulation.Relation.{idle}
-use Rattle.history.specs.Statement.{tied-corrupt, tied-again, tied-finish-superblocks, tied-finish-other}
+use Rattle.history.specs.Statement.{tied-corrupt, tied-again, tied-finish-superblocks}
 use Rattle.codec.specs.Format.{format}
 use Rattle.history.specs.Loads.Superblocks.{reading, resting, limits-room, Read, read-put, superblocksAt, one, oneIds, ones-few, ones-waiting, ones-answered, slot-ask, slot-answer}
+use Rattle.history.specs.Calls.Finish.{finish-takes}
 use Rattle.history.specs.Loads.Journal.{otherAt}
 use Rattle.history.specs.Example.Walk.{Somewhere, Step, onward}
 use Rattle.history.specs.Example.Setting.{sb0-wf, first, init, g, table1, sb0, slots0, j0, j0-sized, none-pending, counts, dayAt}
@@ -161,42 +162,5 @@ pub d9 : Step chosen finishOther started
 unfolding JournalFrontInterval JournalBackInterval
 d9 =
     onward finishOther (d8 .1)
-    (λ q.
-    record {
-      event = MachineStep NoDiskOp (Source FinishLoadingOtherPhaseStep);
-      tied = tied-finish-other;
-      allowed =
-          record {
-            meets = q;
-            step =
-                record {
-                  machine =
-                      record {
-                        source =
-                            record {
-                              op = refl;
-                              start-in = omega arith;
-                              len-in = omega arith;
-                              front-in = λ v e. none-some refl e;
-                              back-in = λ v e. none-some refl e;
-                              superblockWrite-is = refl;
-                              inMemoryJournalFrozen-is = refl;
-                              inMemoryJournal-is = refl;
-                              outstandingJournalWrites-is = refl;
-                              writtenJournalLen-is = refl;
-                              parses = format .parse-empty;
-                              superblock-is = refl;
-                              whichSuperblock-is = refl;
-                              newSuperblock-is = refl;
-                              syncReqs-is = refl;
-                              isFrozen-is = refl;
-                              frozenLoc-is = refl;
-                              commitStatus-is = refl;
-                            };
-                        position-is = refl;
-                      };
-                  disk = record { next = refl };
-                };
-          };
-    })
+    (λ q. finish-takes g format limits _ (resting slots0 j0) [] q (λ v e. none-some refl e) (λ v e. none-some refl e) (format .parse-empty))
     tt (counts (none-few 32) (none-few 16) none-pending) (disk-reading (both no-ids) rest-few)

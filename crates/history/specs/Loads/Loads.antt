@@ -20,7 +20,7 @@ use Rattle.laws.specs.Sets.{no-ids, no-keys, AtMost, none-few, Two, both, at, p
 use Rattle.codec.specs.Codec.{JournalRange, Sized, Codec, Disk-JournalRange}
 use Rattle.source.specs.JournalDisk.{NoDiskOp}
 use Rattle.source.specs.JournalCache as M
-use Rattle.source.specs.JournalCache.{SuperblockReadResult, SuperblockSuccess, SuperblockUnfinished, FinishLoadingSuperblockPhaseStep, FinishLoadingOtherPhaseStep, journalIntervalOfSuperblock, loaded}
+use Rattle.source.specs.JournalCache.{SuperblockReadResult, SuperblockSuccess, SuperblockUnfinished, FinishLoadingSuperblockPhaseStep, journalIntervalOfSuperblock, loaded}
 use Rattle.source.specs.JournalSystem as Y
 use Rattle.source.specs.JournalSystem.{SuperblockOfDisk}
 use Rattle.source.specs.Limits.{Limits}
@@ -29,8 +29,9 @@ use Rattle.history.specs.Ledger.{Call, crash, finishSuperblocks, finishO
 use Rattle.codec.specs.Ranges.{codes, whole, whole-full, whole-same, length-codes, parse-codes}
 use Rattle.history.specs.Journal.Slots.{Slots, picked-is, slots-wf}
 use Rattle.history.specs.Simulation.Relation.{superOf, Pieces, Sim}
-use Rattle.history.specs.Statement.{Tied, tied-finish-superblocks, tied-finish-other, tied-crash, Takes, loads, readyBy, Trace, Loaded}
+use Rattle.history.specs.Statement.{Tied, tied-finish-superblocks, tied-crash, Takes, loads, readyBy, Trace, Loaded}
 use Rattle.history.specs.Simulation.Steps.{sim-step}
+use Rattle.history.specs.Calls.Finish.{finish-takes}
 use Rattle.history.specs.Whole.Reloaded.{loaded-whole}
 use Rattle.history.specs.Earlier.{Past}
 use Rattle.history.specs.Whole.Lists.{sim-run}
@@ -149,54 +150,19 @@ module _ (g : Geometry) (C : Codec) (L : Limits) (room : Room L) (p : ℕ) (slot
   unfolding loads
   comes-ready pieces owned held has =
       by {u = record { machine = M.Variables.Ready (readyBy (shown C l) (z .slot)); disk = resting slots j }}
+      (finish-takes g C L loading (resting slots j) (shown C l .entries)
       (record {
-        event = MachineStep NoDiskOp (Source FinishLoadingOtherPhaseStep);
-        tied = tied-finish-other;
-        allowed =
-            record {
-              meets =
-                  record {
-                    machine =
-                        machine-other g C L room slots j (z .slot) (superOf C (l .kept)) selected (z .disk .size) sized full (both none) pieces owned held
-                        (λ b id q. none-some (at-both none b) q) (λ id a b. none-some refl a);
-                    disk =
-                        disk-meets g L slots j (z .slot) (superOf C (l .kept)) selected (z .disk .size) sized (both no-ids) no-keys
-                        (none-superblocks g C L room slots j (z .slot) (superOf C (l .kept)) selected (z .disk .size) sized full) (none-few (L .journalReads)) (λ id u e. none-some refl e);
-                    joined =
-                        joined g L slots j (z .slot) (superOf C (l .kept)) selected (z .disk .size) sized (both no-ids) no-keys
-                        (otherAt (superOf C (l .kept)) (z .slot) (both none) pieces) refl refl refl refl;
-                  };
-              step =
-                  record {
-                    machine =
-                        record {
-                          source =
-                              record {
-                                op = refl;
-                                start-in = wf .start-in;
-                                len-in = wf .len-in;
-                                front-in = has false;
-                                back-in = has true;
-                                superblockWrite-is = refl;
-                                inMemoryJournalFrozen-is = refl;
-                                inMemoryJournal-is = refl;
-                                outstandingJournalWrites-is = refl;
-                                writtenJournalLen-is = refl;
-                                parses = ap (C .parseJournalRange) blocks-are ∙ parse-codes C (l .kept .ranges) (z .disk .good);
-                                superblock-is = refl;
-                                whichSuperblock-is = refl;
-                                newSuperblock-is = refl;
-                                syncReqs-is = refl;
-                                isFrozen-is = refl;
-                                frozenLoc-is = refl;
-                                commitStatus-is = refl;
-                              };
-                          position-is = refl;
-                        };
-                    disk = record { next = refl };
-                  };
-            };
+        machine =
+            machine-other g C L room slots j (z .slot) (superOf C (l .kept)) selected (z .disk .size) sized full (both none) pieces owned held
+            (λ b id q. none-some (at-both none b) q) (λ id a b. none-some refl a);
+        disk =
+            disk-meets g L slots j (z .slot) (superOf C (l .kept)) selected (z .disk .size) sized (both no-ids) no-keys
+            (none-superblocks g C L room slots j (z .slot) (superOf C (l .kept)) selected (z .disk .size) sized full) (none-few (L .journalReads)) (λ id u e. none-some refl e);
+        joined =
+            joined g L slots j (z .slot) (superOf C (l .kept)) selected (z .disk .size) sized (both no-ids) no-keys
+            (otherAt (superOf C (l .kept)) (z .slot) (both none) pieces) refl refl refl refl;
       })
+      (has false) (has true) (ap (C .parseJournalRange) blocks-are ∙ parse-codes C (l .kept .ranges) (z .disk .good)))
       refl here
     where
       wf : WFSuperblock g (superOf C (l .kept))
