@@ -70,8 +70,9 @@ pub(crate) fn turn(
     }
     let s = d.store;
     let n = after(d.row);
+    // All bytes that a line can bring; of more than 16 entries the store looks at their number alone.
     let mut brought = [0u8; 8192];
-    let mut sizes = [0u16; 8192];
+    let mut sizes = [0u16; 16];
     let c = command_of(line, i, &mut brought, &mut sizes);
     match c {
         Command::Is(x) => {
