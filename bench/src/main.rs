@@ -35,7 +35,7 @@ fn main() {
                 table::row(name, make());
             }
             table::whole_replay();
-            day::row();
+            day::all();
         }
         _ => eprintln!("usage: bench, or bench once NAME ours|plain COUNT"),
     }
