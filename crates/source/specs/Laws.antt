@@ -8,6 +8,7 @@ pub mod Overlap
 pub mod Unique
 pub mod Answers
 pub mod Pieces
+pub mod Loaded
 pub mod Open
 pub mod Awaited
 pub mod PreservedReady

@@ -26,12 +26,13 @@ use Rattle.source.specs.JournalSystem as Y
 use Rattle.source.specs.Limits.{Limits}
 use Rattle.source.specs.Meets.{SystemMeets}
 use Rattle.source.specs.Departures.{Source, MachineStep}
+use Rattle.source.specs.Laws.Loaded.{loadedState}
 use Rattle.source.specs.Laws.Pieces.{piece-contiguous}
 use Rattle.history.specs.Ledger.{Call, readJournal, journalRead, finishOther, Ledger, shown}
 use Rattle.history.specs.Statement.{tied-page, tied-paged}
 use Rattle.history.specs.Simulation.Relation.{Paged, Sim}
 use Rattle.history.specs.Simulation.Steps.{reads-stand}
-use Rattle.history.specs.Calls.Finish.{loadedWith, PieceIn, finish-takes}
+use Rattle.history.specs.Calls.Finish.{PieceIn, finish-takes}
 use Rattle.history.specs.Whole.Reloaded.{loaded-whole}
 use Rattle.history.specs.Loads.Journal.{piece-full}
 use Rattle.history.specs.Driver.{pieceNext, orElse, nextCall, New, pieceLeft, piecesLeft, leftAt, left}
@@ -208,7 +209,7 @@ module _ (g : Geometry) (C : Codec) (L : Limits) (p : ℕ) (s : M.LoadingOtherVa
     unfolding sum lengths
     end-driven front back =
         record {
-          next = record { machine = M.Variables.Ready (loadedWith s (shown C l .entries)); disk = d };
+          next = record { machine = M.Variables.Ready (loadedState s (shown C l .entries)); disk = d };
           moves =
               record {
                 takes = finish-takes g C L s d (shown C l .entries) meets front back (ap (C .parseJournalRange) blocks-are ∙ parse-codes C (l .kept .ranges) (z .disk .good));

@@ -38,7 +38,8 @@ use Rattle.machine.specs.Whole.{askFinish, finishLoadingOtherPhase, finishedByt
 use Rattle.refine.specs.Machine.LoadingView.{loadingOtherOf, otherSeen}
 use Rattle.refine.specs.Machine.LoadingFinish as L
 use Rattle.refine.specs.Machine.ReadyView.{ReadyLent, readyOf}
-use Rattle.refine.specs.Machine.ReadyLoaded.{loadedState, loaded-clauses, clauses-loaded, loaded-view}
+use Rattle.source.specs.Laws.Loaded.{loadedState, loaded-clauses, clauses-loaded}
+use Rattle.refine.specs.Machine.ReadyLoaded.{loaded-view}
 use Rattle.refine.specs.Machine.MachineView.{syncsOf, machineOf, operationOf, SizedMachine, MachineLent, MachineForm}
 use Rattle.refine.specs.Machine.MachineMeets.{KindOk, machine-kind-ok, met-machine}
 use Rattle.refine.specs.Machine.MachineCalls.{sound-by, complete-by}
