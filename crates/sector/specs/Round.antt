@@ -5,16 +5,18 @@ use mathlib.Core.Path.{_≡_, refl, sym, _∙_, ap}
 use mathlib.Core.List.{List}
 use native.Mathlib.Omega.{arith}
 use borrow.Author.Tests.{lt-ltb}
-use Rattle.laws.specs.Choice.{also-both, asked-yes}
-use Rattle.laws.specs.Digits.{isDigit}
-use Rattle.laws.specs.Fold.{every}
+use lib.ListN.{replicate}
+use Rattle.laws.specs.Choice.{also, andThen, ask, also-both, asked-yes}
+use Rattle.laws.specs.Digits.{digits, isDigit}
+use Rattle.laws.specs.Fold.{every, same}
+use Rattle.laws.specs.Part.{tab}
 use Rattle.laws.specs.Bytes.{Bytes}
-use Rattle.laws.specs.LowFirst.{eachFromLow}
+use Rattle.laws.specs.LowFirst.{eachLow, eachFromLow}
 use Rattle.superblock.specs.declared.Superblock.{Superblock}
 use Rattle.sector.specs.declared.SectorRead.the-variants as read
 use Rattle.sector.specs.Answer.{readSector, read-holds}
 use Rattle.sector.specs.Laws.{Words, numbersIn-sectorOf, askFields-sectorOf, sector-asked, sectorOf-numbersIn}
-use Rattle.sector.specs.Sector.{NumberCount, numbersIn, numbersOf, sectorOf, superblockOf, askSector, encodeSuperblock, superblockIn}
+use Rattle.sector.specs.Sector.{SectorSize, contents, askFields, NumberCount, numbersIn, numbersOf, sectorOf, superblockOf, askSector, encodeSuperblock, superblockIn}
 
 -- a superblock of 64-bit numbers, as each is in the code
 pub record Fits (s : Superblock) : Type 0 where
@@ -45,6 +47,11 @@ read-written s f =
     (askFields-sectorOf (numbersOf s) (omega arith) (numbers-fit s f))
     ∙ ap (λ (ns : List ℕ). read.Holds (superblockOf ns)) (numbersIn-sectorOf (numbersOf s) (omega arith) (numbers-fit s f))
     ∙ ap read.Holds (superblock-again s)
+
+-- a sector of zeros only isn't one: its contents are others
+pub zeros-refused : readSector (replicate SectorSize 0) ≡ read.Refused 10
+unfolding askFields andThen ask same contents eachLow digits also tab
+zeros-refused = refl
 
 -- the numbers in a sector are those of the superblock in it
 numbers-again : (xs : List ℕ) → numbersOf (superblockIn xs) ≡ numbersIn NumberCount xs
