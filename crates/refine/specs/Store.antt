@@ -51,6 +51,7 @@ pub mod Within
 pub mod Reach
 pub mod Runs
 pub mod Follows
+pub mod Loads
 pub mod Day
 pub mod Exact
 pub mod Names

@@ -118,19 +118,19 @@ loaded-ready g s r e = ready-at (s .store .machine .kind) _ _ (readySeen s) r e
 -- A call that is taken leaves the form that records and lent memory add to the view, and a refused one leaves all; so a loaded store has it, and
 -- `whichSuperblock` is 0 or 1.
 module _ (g : Geometry) where
-  next-formed : (s : State) (x : Made) (t : State) → Promise g s x true t → StoreForm g (t .lent) (t .store)
+  pub next-formed : (s : State) (x : Made) (t : State) → Promise g s x true t → StoreForm g (t .lent) (t .store)
   next-formed s x t p =
       let a = taken-next (stepped g (s .lent) (x .given) (s .store) (x .step) .answer) (p .taken-is) in
       subst (λ (u : Lent × Store). StoreForm g (u .0) (u .1)) (λ i. (sym (p .lent-is) i, sym (p .store-is) i))
       (form-kept g (s .lent) (x .given) (s .store) (x .step) (a .0) (s .sized) (a .1))
 
-  same-formed : (s : State) (x : Made) (t : State) → Promise g s x false t → StoreForm g (s .lent) (s .store) → StoreForm g (t .lent) (t .store)
+  pub same-formed : (s : State) (x : Made) (t : State) → Promise g s x false t → StoreForm g (s .lent) (s .store) → StoreForm g (t .lent) (t .store)
   same-formed s x t p f =
       let a = refused-number (stepped g (s .lent) (x .given) (s .store) (x .step) .answer) (p .taken-is) in
       let k = store-refused g (s .lent) (x .given) (s .store) (x .step) (a .0) (a .1) in
       subst (λ (u : Lent × Store). StoreForm g (u .0) (u .1)) (λ i. (sym (p .lent-is ∙ k .1) i, sym (p .store-is ∙ k .0) i)) f
 
-  run-formed : (s t : State) (xs : List Made) (bs : List Bool) → StoreForm g (s .lent) (s .store) → Ran (codeStore g) s xs bs t → StoreForm g (t .lent) (t .store)
+  pub run-formed : (s t : State) (xs : List Made) (bs : List Bool) → StoreForm g (s .lent) (s .store) → Ran (codeStore g) s xs bs t → StoreForm g (t .lent) (t .store)
   run-formed s t [] [] f h = subst (λ (u : State). StoreForm g (u .lent) (u .store)) (sym h) f
   run-formed s t [] (b ∷ bs) f h = absurd h
   run-formed s t (x ∷ xs) [] f h = absurd h
