@@ -292,6 +292,29 @@ module _ (g : Geometry) (disk : List ℕ) (c : Choice) (l : Lent) where
         (unless (sym asks-parse i .number) (l .rbytes) (splice (l .rbytes) 0 (flat (intervalEntries g disk (c .superblock)))))
         (unless (sym asks-parse i .number) (l .rlens) (splice (l .rlens) 0 (lengths (intervalEntries g disk (c .superblock))))))
 
+-- a record that is held: the answer, and replay memory
+module _ (g : Geometry) (disk : List ℕ) (c : Choice) (h : c .no .number ≡ 0) (k : askParse g disk (c .superblock) ≡ 0) where
+  pub asked-record : askRecord g disk c .number ≡ 0
+  unfolding askRecord
+  asked-record = ap (λ (r : Refusal). r .number) (no-next (c .no .number) (c .no .slot) _ h) ∙ k
+
+  pub held-yes : recordOf g disk c ≡ recorded.Held (c .superblock) (c .which) (length (intervalEntries g disk (c .superblock))) (sum (lengths (intervalEntries g disk (c .superblock))))
+  unfolding recordOf
+  held-yes = asked-yes (askRecord g disk c .number) _ _ asked-record
+
+  pub bytes-yes : (l : Lent) → recordLent g disk c l .rbytes ≡ splice (l .rbytes) 0 (flat (intervalEntries g disk (c .superblock)))
+  unfolding recordLent
+  bytes-yes l = unless-done (askRecord g disk c .number) (l .rbytes) _ asked-record
+
+  pub lens-yes : (l : Lent) → recordLent g disk c l .rlens ≡ splice (l .rlens) 0 (lengths (intervalEntries g disk (c .superblock)))
+  unfolding recordLent
+  lens-yes l = unless-done (askRecord g disk c .number) (l .rlens) _ asked-record
+
+-- and nothing was refused of it
+pub record-asked : (g : Geometry) (disk : List ℕ) (c : Choice) → askRecord g disk c .number ≡ 0 → (c .no .number ≡ 0) × (allParse (intervalBytes g disk (c .superblock)) ≡ true)
+unfolding askRecord
+record-asked g disk c e = (no-left _ _ _ e, ask-yes 7 _ (omega arith) (no-right _ _ _ e))
+
 -- what the parts answer is the choice
 pub chosen-is : (g : Geometry) (disk : List ℕ) (q : ℕ) (a b : SectorRead) (n : Refusal) (s t x : Superblock) (w : ℕ) → a ≡ slotRead disk 0 → b ≡ slotRead disk SectorSize → n ≡ askSlots g a b q
     → s ≡ sectorSuperblock a → t ≡ sectorSuperblock b → w ≡ SelectSuperblockIndex s t → x ≡ SelectSuperblock s t → record { no = n; superblock = x; which = w } ≡ chosen g disk q
@@ -319,6 +342,11 @@ module _ (marks : List ℕ) (c : Choice) where
         superblock = c .superblock;
         which = c .which;
       }
+
+  -- so nothing was refused of it exactly where nothing was before, and the interval's blocks can be read
+  pub readable-yes : readable marks c .no .number ≡ 0 → (c .no .number ≡ 0) × (askReadable (intervalOf (c .superblock)) marks ≡ 0)
+  unfolding readable
+  readable-yes e = (no-left _ _ _ e, no-right _ _ _ e)
 
 -- what `record` chooses may be fetched, and what `record_marked` chooses
 pub unmarked-may : (g : Geometry) (disk : List ℕ) (l : Lent) (q : ℕ) (c : Choice) → (q ≡ 0 → askLent g disk l ≡ 0) → c ≡ chosen g disk q

@@ -1,0 +1,4 @@
+pub mod Pictures
+pub mod Records
+pub mod Code
+pub mod Proofs

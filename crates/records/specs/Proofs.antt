@@ -1,0 +1,3 @@
+pub mod Loadable
+pub mod Loads
+pub mod Brings

@@ -1,0 +1,202 @@
+-- The record of an image whose disk can be loaded: the selected superblock, its slot, and the entries that its interval parses to. What a ledger
+-- keeps is such a disk.
+use Prim.Native.Nat.{ℕ, _+_, _*_, _<_}
+use mathlib.Core.Bool.{Bool, true, false, cond}
+use mathlib.Core.Path.{_≡_, refl, sym, _∙_, ap, subst}
+use mathlib.Core.List.{List, [], map}
+use mathlib.Core.Option.{Option, none, some}
+use native.Mathlib.Omega.{arith}
+use lib.Dec.{eqb}
+use lib.ListN.{length, take, drop, getD, length-map, replicate}
+use lib.Seq.{ext-getD}
+use Rattle.laws.specs.Choice.{ruin, split-eq, ask-holds}
+use Rattle.laws.specs.Cut.{cut, flat, lengths, flat-even, cut-even}
+use Rattle.laws.specs.Fold.{sum}
+use Rattle.laws.specs.Part.{tab, getD-tab, length-part, getD-map-in}
+use Rattle.laws.specs.Ring.{wrap, wrap-in}
+use Rattle.laws.specs.Splice.{splice}
+use Rattle.laws.specs.Sets.{Two, at}
+use Rattle.layout.specs.declared.Geometry.{Geometry}
+use Rattle.interval.specs.declared.JournalInterval.{JournalInterval}
+use Rattle.interval.specs.Interval.{interval}
+use Rattle.interval.specs.Facts.{ValidJournalInterval}
+use Rattle.interval.specs.Journal.{JournalBlock, CyclicSlice}
+use Rattle.interval.specs.Laws.{slice-at, length-slice}
+use Rattle.superblock.specs.declared.Superblock.{Superblock}
+use Rattle.superblock.specs.Superblock.{IncrementSuperblockCounter, SelectSuperblock, SelectSuperblockIndex}
+use Rattle.superblock.specs.Laws.{WFSuperblock, facts-superblock, selects-second, selects-first}
+use Rattle.journal.specs.Memory.{sliceBytes, askReadable}
+use Rattle.journal.specs.Cells.{blockAt, blocksIn, length-bytes, slice-blocks}
+use Rattle.journal.specs.Blocks.{length-blocks}
+use Rattle.range.specs.Form.{LengthWidth, MostEntryLength, allEntries, allParse}
+use Rattle.range.specs.Ranges.{parseAll-parses, parseAll-entries}
+use Rattle.codec.specs.Codec.{JournalEntry, JournalRange}
+use Rattle.codec.specs.Format.{format, parseBlocks}
+use Rattle.codec.specs.Ranges.{codes, whole, length-codes, parse-codes, blocks}
+use Rattle.source.specs.JournalDisk as D
+use Rattle.source.specs.JournalCache as M
+use Rattle.history.specs.Ledger.{Kept}
+use Rattle.history.specs.Journal.Slots.{bit, picked, picked-is, Slots, slots-wf}
+use Rattle.history.specs.Simulation.Relation.{superOf, OnDisk}
+use Rattle.sector.specs.declared.SectorRead.{SectorRead}
+use Rattle.sector.specs.declared.SectorRead.the-variants as read
+use Rattle.sector.specs.Sector.{SectorSize}
+use Rattle.image.specs.declared.Choice.{Choice}
+use Rattle.image.specs.declared.Recorded.the-variants as recorded
+use Rattle.image.specs.Image.{Lent, slotRead, sectorNumber, sectorSuperblock, superblock1, superblock2, selected, which, journalOf, intervalOf, intervalBytes, intervalEntries, askParse, refusal, askSlots, chosen, readable}
+use Rattle.image.specs.Laws.{no-next, held-yes, bytes-yes, lens-yes, readable-asked}
+use Rattle.records.specs.Pictures.{said, Pictures, RecordIs}
+
+-- what a slot says, taken apart
+pub said-holds : (r : SectorRead) (v : Superblock) → said r ≡ some v → r ≡ read.Holds v
+said-holds (read.Holds s) v e = cc
+said-holds (read.Refused q) v e = ruin (cc)
+
+-- the slot that is selected, as a number
+pub index-bit : (t : Two Superblock) → SelectSuperblockIndex (t .first) (t .second) ≡ bit (picked t)
+index-bit t =
+    split-eq (t .second .counter) (IncrementSuperblockCounter (t .first .counter))
+    (λ e. let s = selects-second (t .first) (t .second) e in s ∙ sym (ap (λ (n : ℕ). bit (eqb n 1)) s))
+    (λ f. let s = selects-first (t .first) (t .second) f in s ∙ sym (ap (λ (n : ℕ). bit (eqb n 1)) s))
+
+-- blocks joined again are their bytes
+pub flat-blocks : (n : ℕ) (bytes : List ℕ) → length bytes ≡ n * 4096 → flat (blocksIn n bytes) ≡ bytes
+unfolding blocksIn
+flat-blocks n bytes h = ap flat (sym (cut-even n 4096 bytes)) ∙ flat-even n 4096 bytes h
+
+-- a disk that can be loaded: both slots hold well-formed superblocks, s is selected, in slot w, and its interval's blocks can be read and parse to es
+pub record Loadable (g : Geometry) (slots : Two (Option Superblock)) (j : List (Option JournalBlock)) (w : Bool) (s : Superblock) (es : List JournalEntry) : Type 0 where
+  pub selected : Slots g slots w s
+  pub size : length j ≡ g .blocks
+  pub held : JournalRange
+  pub holds : CyclicSlice g j (interval (s .journalStart) (s .journalLen)) ≡ whole held
+  pub parses : format .parseJournalRange held ≡ some es
+
+-- what a ledger keeps
+pub kept-loadable : (g : Geometry) (p : ℕ) (d : D.Variables) (k : Kept) (w : Bool) → OnDisk g format p (d .superblocks) (d .reqWriteJournals) (d .journal) k w
+    → Loadable g (d .superblocks) (d .journal) w (superOf format k) (flat (k .ranges))
+kept-loadable g p d k w z =
+    record {
+      selected = z .selected;
+      size = z .size;
+      held = codes format (k .ranges);
+      holds = ap (λ (n : ℕ). CyclicSlice g (d .journal) (interval (k .start) n)) (sym (length-codes format (k .ranges))) ∙ z .holds;
+      parses = parse-codes format (k .ranges) (z .good);
+    }
+
+module _ (g : Geometry) (disk : List ℕ) (size-is : length disk ≡ 8192 + g .blocks * 4096) where
+  pub journal-size : length (journalOf g disk) ≡ g .blocks * 4096
+  journal-size = length-part disk 8192 (g .blocks * 4096) (omega (arith, size-is))
+
+  -- a run of blocks that the disk holds, as the image has it
+  module _ (d : D.Variables) (pic : Pictures g disk d) (size : length (d .journal) ≡ g .blocks) (v : JournalInterval) (f : ValidJournalInterval g v)
+      (cs : JournalRange) (n : length cs ≡ v .len) (h : CyclicSlice g (d .journal) v ≡ whole cs) where
+    block-is : (i : ℕ) → i < v .len → getD (blocksIn (v .len) (sliceBytes (journalOf g disk) v)) i [] ≡ getD cs i []
+    unfolding blocksIn
+    block-is i l =
+        let in-ring : wrap (g .blocks) (v .start + i) < g .blocks = wrap-in (g .blocks) (v .start + i) (omega (arith, f .start-in, f .len-in, l)) in
+        ap (λ (xs : List JournalBlock). getD xs i []) (sym (slice-blocks g v f (journalOf g disk) journal-size))
+        ∙ slice-at g (blocksIn (g .blocks) (journalOf g disk)) (length-blocks (g .blocks) (journalOf g disk)) v f i [] l
+        ∙ getD-tab (g .blocks) (blockAt (journalOf g disk)) (wrap (g .blocks) (v .start + i)) [] in-ring
+        ∙ pic .blocks (wrap (g .blocks) (v .start + i)) (getD cs i [])
+        (sym (slice-at g (d .journal) size v f i none l)
+        ∙ ap (λ (xs : List (Option JournalBlock)). getD xs i none) h
+        ∙ getD-map-in some cs i [] none (omega (arith, l, n)))
+
+    pub image-blocks : blocksIn (v .len) (sliceBytes (journalOf g disk) v) ≡ cs
+    image-blocks =
+        ext-getD [] (blocksIn (v .len) (sliceBytes (journalOf g disk) v)) cs (length-blocks (v .len) (sliceBytes (journalOf g disk) v) ∙ sym n)
+        (λ i l. block-is i (omega (arith, l, length-blocks (v .len) (sliceBytes (journalOf g disk) v))))
+
+    pub image-holds : sliceBytes (journalOf g disk) v ≡ flat cs
+    image-holds = sym (flat-blocks (v .len) (sliceBytes (journalOf g disk) v) (length-bytes g v f (journalOf g disk) journal-size)) ∙ ap flat image-blocks
+
+  -- of a disk that can be loaded
+  module _ (d : D.Variables) (pic : Pictures g disk d) (w : Bool) (s : Superblock) (es : List JournalEntry) (z : Loadable g (d .superblocks) (d .journal) w s es) where
+    abbrev slots : Slots g (d .superblocks) w s
+    slots = z .selected
+
+    first-read : slotRead disk 0 ≡ read.Holds (slots .values .first)
+    first-read = said-holds (slotRead disk 0) (slots .values .first) (sym (pic .first) ∙ slots .holds false)
+
+    second-read : slotRead disk SectorSize ≡ read.Holds (slots .values .second)
+    second-read = said-holds (slotRead disk SectorSize) (slots .values .second) (sym (pic .second) ∙ slots .holds true)
+
+    first-is : superblock1 disk ≡ slots .values .first
+    unfolding sectorSuperblock
+    first-is = ap sectorSuperblock first-read
+
+    second-is : superblock2 disk ≡ slots .values .second
+    unfolding sectorSuperblock
+    second-is = ap sectorSuperblock second-read
+
+    selected-is : selected disk ≡ s
+    selected-is =
+        (λ i. SelectSuperblock (first-is i) (second-is i))
+        ∙ picked-is (slots .values)
+        ∙ ap (at (slots .values)) (slots .picks)
+        ∙ slots .is
+
+    which-is : which disk ≡ bit w
+    which-is = (λ i. SelectSuperblockIndex (first-is i) (second-is i)) ∙ index-bit (slots .values) ∙ ap bit (slots .picks)
+
+    -- the interval's blocks are those that the disk holds
+    valid : ValidJournalInterval g (intervalOf s)
+    valid = let f = slots-wf g (d .superblocks) w s slots in record { start-in = f .start-in; len-in = f .len-in }
+
+    bytes-are : intervalBytes g disk s ≡ flat (z .held)
+    unfolding intervalBytes
+    bytes-are =
+        image-holds d pic (z .size) (intervalOf s) valid (z .held)
+        (sym (length-map (z .held) some) ∙ ap length (sym (z .holds)) ∙ length-slice g (d .journal) (z .size) (intervalOf s) valid) (z .holds)
+
+    parse-yes : allParse (intervalBytes g disk s) ≡ true
+    unfolding parseBlocks
+    parse-yes = ap allParse bytes-are ∙ parseAll-parses LengthWidth MostEntryLength (flat (z .held)) es (z .parses)
+
+    entries-are : intervalEntries g disk s ≡ es
+    unfolding parseBlocks
+    entries-are = ap allEntries bytes-are ∙ parseAll-entries LengthWidth MostEntryLength (flat (z .held)) es (z .parses)
+
+    -- nothing is refused
+    slots-yes : askSlots g (slotRead disk 0) (slotRead disk SectorSize) 0 ≡ refusal 0 0
+    unfolding askSlots sectorNumber
+    slots-yes =
+        no-next _ _ _ (ap sectorNumber first-read)
+        ∙ no-next _ _ _ (ap sectorNumber second-read)
+        ∙ no-next _ _ _ refl
+        ∙ no-next _ _ _ (ask-holds 2 _ (facts-superblock g (superblock1 disk) (subst (WFSuperblock g) (sym first-is) (slots .wf false))))
+        ∙ no-next _ _ _ (ask-holds 2 _ (facts-superblock g (superblock2 disk) (subst (WFSuperblock g) (sym second-is) (slots .wf true))))
+
+    -- the choice, after a yes to question 1
+    pub loadable-choice : chosen g disk 0 ≡ record { no = refusal 0 0; superblock = s; which = bit w }
+    unfolding chosen
+    loadable-choice = λ i. record { no = slots-yes i; superblock = selected-is i; which = which-is i }
+
+    -- so too with marks by which the interval's blocks can be read
+    pub marked-choice : (marks : List ℕ) → askReadable (intervalOf s) marks ≡ 0 → readable marks (chosen g disk 0) ≡ chosen g disk 0
+    marked-choice marks e =
+        ap (readable marks) loadable-choice
+        ∙ sym (readable-asked marks (record { no = refusal 0 0; superblock = s; which = bit w }) refl 0 (sym e))
+        ∙ sym loadable-choice
+
+    -- and the record by it
+    pub loadable-record : (l : Lent) (c : Choice) → c ≡ chosen g disk 0 → (r : M.ReadyVariables) → r .superblock ≡ s → r .whichSuperblock ≡ w → r .replayJournal ≡ es → RecordIs g disk c l r
+    loadable-record l c e r hs hw he = subst (λ (c : Choice). RecordIs g disk c l r) (sym (e ∙ loadable-choice)) by-choice
+      where
+        yes : Choice
+        yes = record { no = refusal 0 0; superblock = s; which = bit w }
+
+        parses-yes : askParse g disk s ≡ 0
+        parses-yes = ask-holds 7 _ parse-yes
+
+        by-choice : RecordIs g disk yes l r
+        by-choice =
+            record {
+              answer = held-yes g disk yes refl parses-yes ∙ (λ i. recorded.Held (sym hs i) (bit (sym hw i)) (length (replay i)) (sum (lengths (replay i))));
+              bytes = bytes-yes g disk yes refl parses-yes l ∙ ap (λ (xs : List JournalEntry). splice (l .rbytes) 0 (flat xs)) replay;
+              lens = lens-yes g disk yes refl parses-yes l ∙ ap (λ (xs : List JournalEntry). splice (l .rlens) 0 (lengths xs)) replay;
+            }
+          where
+            replay : intervalEntries g disk s ≡ r .replayJournal
+            replay = entries-are ∙ sym he
