@@ -64,7 +64,7 @@ use Rattle.records.specs.Pictures.{said, Pictures, OnlyOfLoad, RecordIs}
 use Rattle.records.specs.Proofs.Loadable.{Loadable, loadable-record, marked-choice}
 use Rattle.records.specs.Proofs.Loads.{any-load, only-of}
 use Rattle.records.specs.Proofs.Brings.{related}
-use Rattle.records.specs.Records.{keptBy, sim-loadable}
+use Rattle.records.specs.Records.{keptBy, sim-loadable, load-tells}
 
 -- Bytes picture a store: the slots' sectors say what they hold, and in the place of each block that can be read the block lies
 pub record StorePictures (g : Geometry) (disk : List ℕ) (s : State) : Type 0 where
@@ -185,6 +185,23 @@ code-load-records g disk l s calls answers t e pic h only k c a =
     ready-record g disk c l t k (loaded-formed g s t calls answers (readySeen t) e h q)
     (asks-record g disk l s pic (readySeen t)
     (any-load g (stateSeen g s) (stateSeen g t) (map (codeStore g .call) calls) answers (readySeen t) e only (ran-trace g format limits (codeStore g) s calls answers t h) q) c a)
+
+-- So what such a load shows is what the ledger has kept
+pub code-load-tells : (g : Geometry) (first : Y.Variables) (loc : Location) (i : Y.Init g first loc) (s : State) (calls : List Made) (answers : List Bool) (t : State) → stateSeen g s ≡ first
+    → Ran (codeStore g) s calls answers t → stateSeen g t .machine ≡ M.Variables.LoadingSuperblock M.initial
+    → (loading : List Made) (loaded : List Bool) (u : State) → Ran (codeStore g) t loading loaded u → OnlyOfLoad (map (codeStore g .call) loading) loaded → u .store .machine .kind ≡ kind.Ready
+    → let k = keptBy g first loc i (books g format (begin (SuperblockOfDisk g (first .disk) (i .wf))) (map (codeStore g .call) calls) answers) in
+    (u .store .machine .ready .superblock ≡ k .superblock) × (u .store .machine .ready .whichSuperblock ≡ bit (k .whichSuperblock)) × (replayOf u ≡ k .replayJournal)
+code-load-tells g first loc i s calls answers t e h m loading loaded u load only k =
+    let q = work-seen g (machineLent (u .lent)) (u .store .machine) k in
+    let z =
+    load-tells g first loc i (map (codeStore g .call) calls) answers (stateSeen g t)
+    (subst (λ (y : Y.Variables). Trace g format limits y (map (codeStore g .call) calls) answers (stateSeen g t)) e (ran-trace g format limits (codeStore g) s calls answers t h)) m
+    (stateSeen g u) (map (codeStore g .call) loading) loaded (readySeen u) (ran-trace g format limits (codeStore g) t loading loaded u load) only q in (
+      z .0,
+      sym (slot-number (u .store .machine .ready .whichSuperblock) (work-form g (machineLent (u .lent)) (u .store .machine) k (loaded-formed g t u loading loaded (readySeen u) m load q .machine) .which-in)) ∙ ap bit (z .1),
+      z .2,
+    )
 
 -- `Store::initial` over lent memory of its lengths
 

@@ -32,7 +32,7 @@ use Rattle.history.specs.Whole.Lists.{sim-run}
 use Rattle.image.specs.Image.{Lent, selected, intervalOf, askLent, chosen, unmarked, askRecord}
 use Rattle.image.specs.Laws.{image-asked}
 use Rattle.records.specs.Pictures.{Pictures, OnlyOfLoad, RecordIs, Brought}
-use Rattle.records.specs.Proofs.Loadable.{Loadable, kept-loadable, loadable-record}
+use Rattle.records.specs.Proofs.Loadable.{Loadable, kept-loadable, loadable-record, loadable-one}
 use Rattle.records.specs.Proofs.Loads.{any-load}
 use Rattle.records.specs.Proofs.Brings.{brings}
 
@@ -84,6 +84,17 @@ pub load-records : (g : Geometry) (disk : List ℕ) (l : Lent) → askLent g dis
     → (s t : Y.Variables) (xs : List Call) (bs : List Bool) (r : M.ReadyVariables) → s .machine ≡ M.Variables.LoadingSuperblock M.initial → Pictures g disk (s .disk)
     → Trace g format limits s xs bs t → OnlyOfLoad xs bs → t .machine ≡ M.Variables.Ready r → RecordIs g disk (unmarked g disk l) l r
 load-records g disk l asked s t xs bs r e pic h only q = loadable-is g disk l asked s pic r (any-load g s t xs bs r e only h q)
+
+-- So what such a load of a disk shows to which a history from `Init` led is what the ledger has kept, with damaged answers, ask again and sync requests in the load too.
+pub load-tells : (g : Geometry) (first : Y.Variables) (loc : Location) (i : Y.Init g first loc) (calls : List Call) (answers : List Bool) (s : Y.Variables) → Trace g format limits first calls answers s
+    → s .machine ≡ M.Variables.LoadingSuperblock M.initial
+    → (t : Y.Variables) (xs : List Call) (bs : List Bool) (r : M.ReadyVariables) → Trace g format limits s xs bs t → OnlyOfLoad xs bs → t .machine ≡ M.Variables.Ready r
+    → let k = keptBy g first loc i (books g format (begin (SuperblockOfDisk g (first .disk) (i .wf))) calls answers) in
+    (r .superblock ≡ k .superblock) × (r .whichSuperblock ≡ k .whichSuperblock) × (r .replayJournal ≡ k .replayJournal)
+load-tells g first loc i calls answers s h e t xs bs r load only q =
+    loadable-one g (s .disk .superblocks) (s .disk .journal) _ _ _ _ _ _ (any-load g s t xs bs r e only load q)
+    (sim-loadable g first loc i s _
+    (sim-run g format limits (firstParity g format first loc i) first s (begin (SuperblockOfDisk g (first .disk) (i .wf))) calls answers (init-sim g format first loc i) h))
 
 -- And where the record is held, on a disk at rest whose blocks in the selected interval can be read, a load brings it. (The disk's bytes are below 256, its
 -- blocks have 4,096 bytes each.)

@@ -15,7 +15,7 @@ use Rattle.laws.specs.Fold.{sum}
 use Rattle.laws.specs.Part.{tab, getD-tab, length-part, getD-map-in}
 use Rattle.laws.specs.Ring.{wrap, wrap-in}
 use Rattle.laws.specs.Splice.{splice}
-use Rattle.laws.specs.Sets.{Two, at}
+use Rattle.laws.specs.Sets.{Two, at, same-value}
 use Rattle.layout.specs.declared.Geometry.{Geometry}
 use Rattle.interval.specs.declared.JournalInterval.{JournalInterval}
 use Rattle.interval.specs.Interval.{interval}
@@ -32,7 +32,7 @@ use Rattle.range.specs.Form.{LengthWidth, MostEntryLength, allEntries, allParse
 use Rattle.range.specs.Ranges.{parseAll-parses, parseAll-entries}
 use Rattle.codec.specs.Codec.{JournalEntry, JournalRange}
 use Rattle.codec.specs.Format.{format, parseBlocks}
-use Rattle.codec.specs.Ranges.{codes, whole, length-codes, parse-codes, blocks}
+use Rattle.codec.specs.Ranges.{codes, whole, whole-same, length-codes, parse-codes, blocks}
 use Rattle.source.specs.JournalDisk as D
 use Rattle.source.specs.JournalCache as M
 use Rattle.history.specs.Ledger.{Kept}
@@ -71,6 +71,30 @@ pub record Loadable (g : Geometry) (slots : Two (Option Superblock)) (j : List (
   pub held : JournalRange
   pub holds : CyclicSlice g j (interval (s .journalStart) (s .journalLen)) ≡ whole held
   pub parses : format .parseJournalRange held ≡ some es
+
+-- a disk can be loaded as one thing only
+pub loadable-one : (g : Geometry) (slots : Two (Option Superblock)) (j : List (Option JournalBlock)) (w w′ : Bool) (s s′ : Superblock) (es es′ : List JournalEntry)
+    → Loadable g slots j w s es → Loadable g slots j w′ s′ es′ → (s ≡ s′) × (w ≡ w′) × (es ≡ es′)
+loadable-one g slots j w w′ s s′ es es′ z y = (
+  same-s,
+  same-w,
+  same-value (z .parses) (ap (format .parseJournalRange) same-held ∙ y .parses),
+)
+  where
+    first-same : z .selected .values .first ≡ y .selected .values .first
+    first-same = same-value (z .selected .holds false) (y .selected .holds false)
+
+    second-same : z .selected .values .second ≡ y .selected .values .second
+    second-same = same-value (z .selected .holds true) (y .selected .holds true)
+
+    same-w : w ≡ w′
+    same-w = sym (z .selected .picks) ∙ (λ i. picked (record { first = first-same i; second = second-same i })) ∙ y .selected .picks
+
+    same-s : s ≡ s′
+    same-s = sym (z .selected .is) ∙ (λ i. at (record { first = first-same i; second = second-same i }) (same-w i)) ∙ y .selected .is
+
+    same-held : z .held ≡ y .held
+    same-held = whole-same (z .held) (y .held) (sym (z .holds) ∙ (λ i. CyclicSlice g j (interval (same-s i .journalStart) (same-s i .journalLen))) ∙ y .holds)
 
 -- what a ledger keeps
 pub kept-loadable : (g : Geometry) (p : ℕ) (d : D.Variables) (k : Kept) (w : Bool) → OnDisk g format p (d .superblocks) (d .reqWriteJournals) (d .journal) k w
