@@ -1,4 +1,5 @@
 pub mod Pictures
+pub mod Stores
 pub mod Records
 pub mod Code
 pub mod Proofs

@@ -1,3 +1,4 @@
 pub mod Loadable
 pub mod Loads
 pub mod Brings
+pub mod Stores
