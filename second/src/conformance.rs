@@ -116,7 +116,7 @@ fn lines(script: &str) -> Vec<Line> {
 
 fn rows(day: &str) -> String {
     let mut output = vec![];
-    trace::run(day.as_bytes(), &mut output).expect("memory takes all rows");
+    trace::play(day.as_bytes(), &mut output).expect("memory takes all rows");
     String::from_utf8(output).expect("rows are text")
 }
 

@@ -15,6 +15,7 @@ mod handed_cases;
 pub mod handed_conformance;
 pub mod handed_inputs;
 pub mod handed_situations;
+pub mod image;
 pub mod layout;
 pub mod ledger;
 pub mod machine;

@@ -5,6 +5,7 @@ mod border;
 mod covered;
 mod drive;
 mod handed;
+mod image;
 mod sector;
 mod sectors;
 mod stored;
@@ -174,7 +175,7 @@ fn brewday() {
 fn trace_text() {
     let day = b"disk 1 1 0 0 0 12288 1 0 0 0 12288 1\nrs 0 1\nbrew\nnoop";
     let mut output = vec![];
-    assert!(trace::run(&day[..], &mut output).unwrap());
+    assert!(trace::play(&day[..], &mut output).unwrap().is_some());
     let output = String::from_utf8(output).unwrap();
     let rows: Vec<&str> = output.lines().collect();
     assert_eq!(rows[0], trace::HEADER);
@@ -187,7 +188,7 @@ fn trace_text() {
     assert_eq!(rows[3], format!("3 0 S - - - - - - - - - - 0 0 0 {h}"));
     for bad in ["", "disk", "disk 33 1 0 0 0 0 0 0 0 0 0 0", "disk 8 0 0 0 0 0 0 0 0 0 0 0", "noop"] {
         let mut output = vec![];
-        assert!(!trace::run(bad.as_bytes(), &mut output).unwrap());
+        assert!(trace::play(bad.as_bytes(), &mut output).unwrap().is_none());
         assert_eq!(output, b"line 0 is not a disk\n");
     }
 }
@@ -197,7 +198,7 @@ fn long_lines() {
     let disk = "disk 1 1 0 0 0 12288 1 0 0 0 12288 1";
     let rows = |day: String| {
         let mut output = vec![];
-        trace::run(day.as_bytes(), &mut output).unwrap();
+        trace::play(day.as_bytes(), &mut output).unwrap();
         String::from_utf8(output).unwrap().lines().map(String::from).collect::<Vec<_>>()
     };
     let padded = |line: &str, len: usize| format!("{line}{}\n", " ".repeat(len - line.len()));

@@ -1,8 +1,10 @@
 //! The trace: a day in, one row a step out.
 
+use std::ffi::OsString;
 use std::fmt::Write as _;
 use std::io::{self, BufRead, BufReader, BufWriter, Read, Write};
 
+use crate::image::Image;
 use crate::machine::{Phase, Piece};
 use crate::range::Entry;
 use crate::store::Store;
@@ -128,15 +130,15 @@ pub fn first_store<L: AsRef<[u8]>>(lines: impl IntoIterator<Item = L>) -> Option
     Some(store)
 }
 
-/// Plays a day, line by line; rows go out as soon as no more input is at hand.
-/// False where the first line isn't a disk.
-pub fn run(input: impl Read, output: impl Write) -> io::Result<bool> {
+/// Plays a day, line by line; rows go out as soon as no more input is at hand. The store at the day's end, or none
+/// where the first line isn't a disk.
+pub fn play(input: impl Read, output: impl Write) -> io::Result<Option<Store>> {
     let mut input = BufReader::with_capacity(1 << 16, input);
     let mut output = BufWriter::with_capacity(1 << 16, output);
     let mut line = Vec::new();
     let Some((geometry, slots)) = next_line(&mut input, &mut line)?.and_then(parse_disk) else {
         writeln!(output, "line 0 is not a disk")?;
-        return output.flush().map(|()| false);
+        return output.flush().map(|()| None);
     };
     let (mut store, mut reader) = (Store::new(geometry, slots), Reader::new(geometry));
     writeln!(output, "{HEADER}")?;
@@ -154,5 +156,26 @@ pub fn run(input: impl Read, output: impl Write) -> io::Result<bool> {
             Line::Late | Line::Other => writeln!(output, "line {n} is not a step")?,
         }
     }
-    output.flush().map(|()| true)
+    output.flush().map(|()| Some(store))
+}
+
+/// Plays a day, and keeps its disk in the file that is named; else what is to be said.
+fn kept(files: &[OsString], input: impl Read, output: impl Write) -> Result<bool, Vec<u8>> {
+    if files.len() > 1 {
+        return Err(b"expected at most one argument, a file for the disk's bytes".to_vec());
+    }
+    let store = play(input, output).map_err(|error| error.to_string().into_bytes())?;
+    if let (Some(store), Some(file)) = (&store, files.first()) {
+        Image::new(store).keep(file)?;
+    }
+    Ok(store.is_some())
+}
+
+/// The program: plays a day; false where the first line isn't a disk, or something was said.
+pub fn run(files: &[OsString], input: impl Read, output: impl Write, mut errors: impl Write) -> bool {
+    kept(files, input, output).unwrap_or_else(|what| {
+        // Where this fails there is no place left to say so.
+        drop(errors.write_all(&[b"trace: ", &what[..], b"\n"].concat()));
+        false
+    })
 }

@@ -12,7 +12,7 @@ use crate::trace;
 
 fn rows(lines: &[&str]) -> Vec<String> {
     let (mut output, day) = (vec![], lines.iter().map(|line| format!("{line}\n")).collect::<String>());
-    assert!(trace::run(day.as_bytes(), &mut output).unwrap());
+    assert!(trace::play(day.as_bytes(), &mut output).unwrap().is_some());
     String::from_utf8(output).unwrap().lines().map(String::from).collect()
 }
 
