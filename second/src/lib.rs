@@ -20,6 +20,7 @@ pub mod layout;
 pub mod ledger;
 pub mod machine;
 pub mod range;
+pub mod record;
 mod scripts;
 pub mod sector;
 mod sector_cases;

@@ -26,13 +26,21 @@ fn slot_row(slot: usize, answer: &Answer) -> String {
     }
 }
 
+/// Which of two slots is selected, and why.
+pub fn reason(slots: &[Superblock; 2]) -> &'static str {
+    let [follows, equal, back, apart, ..] = SELECTED;
+    match slots {
+        _ if Superblock::select(slots) == 1 => follows,
+        [one, two] if one.counter == two.counter => equal,
+        [one, two] if one.counter == two.next_counter() => back,
+        _ => apart,
+    }
+}
+
 fn selected(answers: [Answer; 2]) -> &'static str {
-    let [follows, equal, back, apart, none_1, none_2, none] = SELECTED;
+    let [.., none_1, none_2, none] = SELECTED;
     match answers {
-        [Ok(a), Ok(b)] if Superblock::select(&[a, b]) == 1 => follows,
-        [Ok(a), Ok(b)] if a.counter == b.counter => equal,
-        [Ok(a), Ok(b)] if a.counter == b.next_counter() => back,
-        [Ok(_), Ok(_)] => apart,
+        [Ok(one), Ok(two)] => reason(&[one, two]),
         [Err(_), Ok(_)] => none_1,
         [Ok(_), Err(_)] => none_2,
         [Err(_), Err(_)] => none,

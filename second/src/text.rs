@@ -73,12 +73,15 @@ pub fn block_line(k: usize, bytes: &[u8]) -> String {
     format!("block {k}{word}")
 }
 
+/// Each byte as a pair of small hexadecimal digits.
+pub fn digits(bytes: &[u8]) -> String {
+    let digit = |d: u8| char::from(b"0123456789abcdef"[usize::from(d)]);
+    bytes.iter().flat_map(|byte| [digit(byte >> 4), digit(byte & 15)]).collect()
+}
+
 /// Each entry's bytes as hexadecimal digits, a space before each entry.
 pub fn entries_line(entries: &[Entry]) -> String {
-    let word = |e: &Entry| {
-        [" ".to_string()].into_iter().chain(e.iter().map(|b| format!("{b:02x}"))).collect::<String>()
-    };
-    entries.iter().map(word).collect()
+    entries.iter().map(|entry| format!(" {}", digits(entry))).collect()
 }
 
 pub fn parse_step(line: &[u8]) -> Option<Step> {
