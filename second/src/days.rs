@@ -165,7 +165,7 @@ fn first_lines(rng: &mut Rng, ill: bool) -> VecDeque<String> {
     [disk_line(g, &slots)].into_iter().chain(blocks).collect()
 }
 
-fn location(rng: &mut Rng, g: Geometry) -> Location {
+pub(crate) fn location(rng: &mut Rng, g: Geometry) -> Location {
     let len = rng.below(g.t().min(3)) + if rng.one_in(2) { 1 } else { g.t() - g.t().min(3) + 1 };
     Location { addr: rng.of(&g.tables()), len }
 }

@@ -19,7 +19,8 @@ pub fn nearly_blank(rng: &mut Rng, len: usize) -> Entry {
     entry
 }
 
-fn entry(rng: &mut Rng, len: usize) -> Entry {
+/// One in three blank, one in six nearly.
+pub(crate) fn entry(rng: &mut Rng, len: usize) -> Entry {
     match rng.below(6) {
         0 | 1 => vec![0; len],
         2 => nearly_blank(rng, len),

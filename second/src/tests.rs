@@ -6,6 +6,7 @@ mod covered;
 mod drive;
 mod handed;
 mod image;
+mod images;
 mod record;
 mod sector;
 mod sectors;
