@@ -47,7 +47,8 @@ pub const DAMAGES: &[Damage] = &[
     ("one superblock in both slots", &[0, 7], |r, s| { let k = either(r); let same = s.slots[k]; s.put(1 - k, same) }),
     // Both slots: the order of the refusals counts.
     ("both slots damaged", &[10, 11, 12], |r, s| s.damage_slot(r, 0) && s.damage_slot(r, 1)),
-    ("a slot ill-formed, the other damaged", &[10, 11, 12], |r, s| { let k = either(r); s.spoil(r, k) && s.damage_slot(r, 1 - k) }),
+    ("slot 1 ill-formed, slot 2 damaged", &[10, 11, 12], |r, s| s.spoil(r, 0) && s.damage_slot(r, 1)),
+    ("slot 1 damaged, slot 2 ill-formed", &[10, 11, 12], |r, s| s.damage_slot(r, 0) && s.spoil(r, 1)),
     ("both slots ill-formed", &[2], |r, s| s.spoil(r, 0) && s.spoil(r, 1)),
     // An ill-formed superblock, its check number right.
     ("a start of N", &[2], |r, s| { let n = s.n(); s.renumber(r, |b| b.start = n) }),
@@ -324,15 +325,4 @@ fn another_t(rng: &mut Rng, s: &mut Subject) -> bool {
     let any = 1 + rng.below(16_777_216);
     s.given.1 = rng.of(&[1, t - 1, t + 1, 4096, 16_777_216, any]);
     s.given.1 != t && Geometry::new(s.n(), s.given.1).is_some()
-}
-
-/// A damage that this disk has a place for, done.
-pub fn damage(rng: &mut Rng, subject: &Subject) -> (&'static Damage, Subject) {
-    loop {
-        let damage = &DAMAGES[any(rng, DAMAGES.len())];
-        let mut damaged = subject.clone();
-        if damage.2(rng, &mut damaged) {
-            return (damage, damaged);
-        }
-    }
 }

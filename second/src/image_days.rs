@@ -38,7 +38,7 @@ fn played(lines: &[String]) -> (Store, Option<Ledger>) {
 impl Played {
     /// A day of some steps; it ends wherever they end.
     pub fn new(rng: &mut Rng) -> Self {
-        let (seed, steps) = (rng.number(), rng.of(&[0, 10, 30, 60, 100, 150, 250]));
+        let (seed, steps) = (rng.number(), rng.of(&[10, 60, 150, 300, 300]));
         let options = Options { steps, ledger: rng.one_in(2), ill: rng.one_in(20) };
         let [ledger, ill] =
             [(options.ledger, " ledger"), (options.ill, " ill")].map(|(on, word)| if on { word } else { "" });

@@ -16,7 +16,7 @@ const MOST_OF_A_RANGE: u64 = 65;
 
 /// Most disks are small, so that many can be looked at.
 fn geometry(rng: &mut Rng) -> Geometry {
-    let n = match rng.below(120) {
+    let n = match rng.below(100) {
         0 => MOST_BLOCKS,
         1 => 41 + rng.below(MOST_BLOCKS - 40),
         2..=14 => 17 + rng.below(24),

@@ -2,7 +2,7 @@
 
 use crate::days::Rng;
 use crate::image::{size, Image};
-use crate::image_damage::{damage, Damage, Subject, DAMAGES};
+use crate::image_damage::{Damage, Subject, DAMAGES};
 use crate::image_days::Played;
 use crate::image_inputs::made;
 use crate::layout::{Geometry, Interval};
@@ -27,13 +27,18 @@ impl Input {
         Input { bytes, given: (geometry.n(), geometry.t()), day, damage: None }
     }
 
-    /// A damaged disk: one in five a day's, where that holds a record.
+    /// A damaged disk: a damage, and the first disk that has a place for it, one in five a day's.
     pub fn damaged(seed: u64) -> Self {
         let rng = &mut Rng::new(seed ^ 0xda3a);
-        let day = rng.one_in(5).then(|| Played::new(rng).image()).and_then(Subject::new);
-        let subject = day.unwrap_or_else(|| Subject::new(made(rng)).expect("it holds a record"));
-        let (damage, Subject { image, given, .. }) = damage(rng, &subject);
-        Input { bytes: image.bytes, given, day: None, damage: Some(damage) }
+        let damage = &DAMAGES[rng.below(DAMAGES.len() as u64) as usize];
+        loop {
+            let day = rng.one_in(5).then(|| Played::new(rng).image()).and_then(Subject::new);
+            let mut subject = day.unwrap_or_else(|| Subject::new(made(rng)).expect("it holds a record"));
+            if damage.2(rng, &mut subject) {
+                let Subject { image, given, .. } = subject;
+                return Input { bytes: image.bytes, given, day: None, damage: Some(damage) };
+            }
+        }
     }
 
     /// What it is made of, in a few words.

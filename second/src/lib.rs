@@ -25,6 +25,7 @@ pub mod ledger;
 pub mod machine;
 pub mod range;
 pub mod record;
+pub mod record_ways;
 mod scripts;
 pub mod sector;
 mod sector_cases;
