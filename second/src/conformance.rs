@@ -3,6 +3,7 @@
 use crate::coverage::{REFUSALS, STEPS};
 use crate::driver::Call;
 use crate::handed_conformance;
+use crate::image_conformance;
 use crate::range::Entry;
 use crate::scripts::DAYS;
 use crate::sector_conformance;
@@ -58,7 +59,7 @@ fn pattern(count: usize, len: usize, from: usize) -> impl Iterator<Item = Entry>
 }
 
 /// Bytes behind each other, `HH*L` being L bytes HH, `HH*L*K` K words of them.
-fn repeated(word: &str) -> String {
+pub(crate) fn repeated(word: &str) -> String {
     let piece = |piece: &str| {
         let mut parts = piece.split('*');
         let bytes = parts.next().unwrap_or_default().to_string();
@@ -200,9 +201,10 @@ fn between(old: &str, name: &str, text: &str) -> Option<String> {
     Some(format!("{head}{begin}\n{text}{end}{tail}"))
 }
 
-/// The page with its tables made anew: those of the days, of the sectors and of the handed stores.
+/// The page with its tables made anew: those of the days, of the sectors, of the handed stores and of the disks.
 pub fn page(old: &str) -> Option<String> {
     let page = between(old, "tables", &tables())?;
     let page = between(&page, "sectors", &sector_conformance::table())?;
-    between(&page, "handed", &handed_conformance::table())
+    let page = between(&page, "handed", &handed_conformance::table())?;
+    between(&page, "images", &image_conformance::table())
 }

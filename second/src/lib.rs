@@ -16,6 +16,8 @@ pub mod handed_conformance;
 pub mod handed_inputs;
 pub mod handed_situations;
 pub mod image;
+mod image_cases;
+pub mod image_conformance;
 pub mod image_damage;
 pub mod image_days;
 pub mod image_inputs;

@@ -18,11 +18,11 @@ pub struct Case {
     pub rows: String,
 }
 
-fn bytes(digits: &str) -> Vec<u8> {
+pub(crate) fn bytes(digits: &str) -> Vec<u8> {
     entry(digits).expect("pairs of hexadecimal digits")
 }
 
-fn sector(source: &str) -> Vec<u8> {
+pub(crate) fn sector(source: &str) -> Vec<u8> {
     let words: Vec<&str> = source.split_whitespace().collect();
     let changes = words.iter().position(|word| word.starts_with(['@', '^'])).unwrap_or(words.len());
     let mut sector = match words[..changes] {

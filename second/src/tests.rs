@@ -26,7 +26,7 @@ use crate::range::{self, Entry};
 use crate::store::{Step, Store};
 use crate::superblock::Superblock;
 use crate::text::{parse_call, parse_step, LONGEST_LINE};
-use crate::{conformance, handed_conformance, sector_conformance, sound, trace, Refusal};
+use crate::{conformance, handed_conformance, image_conformance, sector_conformance, sound, trace, Refusal};
 
 fn g() -> Geometry {
     Geometry::new(8, 4096).unwrap()
@@ -389,7 +389,7 @@ fn holds(folder: &Path, files: &[(String, &[u8])]) {
     }
 }
 
-/// Days, sectors, handed stores, rows and tables in ../conformance are those that `conformance` writes.
+/// Days, sectors, handed stores, disks, rows and tables in ../conformance are those that `conformance` writes.
 #[test]
 fn conformance_is_written() {
     let folder = Path::new(env!("CARGO_MANIFEST_DIR")).join("../conformance");
@@ -405,6 +405,11 @@ fn conformance_is_written() {
     let inputs = cases.iter().map(|case| (format!("{}.lines", case.name), case.input.as_bytes()));
     let rows = cases.iter().map(|case| (format!("{}.rows", case.name), case.rows.as_bytes()));
     holds(&folder.join("handed"), &inputs.chain(rows).collect::<Vec<_>>());
+    let cases = image_conformance::cases();
+    let inputs = cases.iter().map(|case| (format!("{}.bytes", case.name), &case.bytes[..]));
+    let args = cases.iter().map(|case| (format!("{}.args", case.name), case.args.as_bytes()));
+    let rows = cases.iter().map(|case| (format!("{}.rows", case.name), case.rows.as_bytes()));
+    holds(&folder.join("images"), &inputs.chain(args).chain(rows).collect::<Vec<_>>());
     let page = fs::read_to_string(folder.join("README.md")).unwrap();
     assert!(conformance::page(&page).as_ref() == Some(&page), "the tables of README.md");
 }

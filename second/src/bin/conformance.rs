@@ -1,4 +1,4 @@
-//! Writes the conformance days, sectors and handed stores, their rows, and the tables of their page:
+//! Writes the conformance days, sectors, handed stores and disks, their rows, and the tables of their page:
 //! `conformance FOLDER`.
 #![forbid(unsafe_code)]
 
@@ -6,7 +6,7 @@ use std::path::Path;
 use std::{fs, io};
 
 use second::conformance::{days, page};
-use second::{handed_conformance, sector_conformance};
+use second::{handed_conformance, image_conformance, sector_conformance};
 
 /// An input and its rows.
 fn write(folder: &Path, name: &str, input: (&str, &[u8]), rows: &str) -> io::Result<()> {
@@ -26,6 +26,11 @@ fn main() -> io::Result<()> {
     }
     for case in handed_conformance::cases() {
         write(&folder.join("handed"), case.name, ("lines", case.input.as_bytes()), &case.rows)?;
+    }
+    for case in image_conformance::cases() {
+        let images = folder.join("images");
+        write(&images, case.name, ("bytes", &case.bytes), &case.rows)?;
+        fs::write(images.join(format!("{}.args", case.name)), case.args)?;
     }
     let readme = folder.join("README.md");
     let text =
