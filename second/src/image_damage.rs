@@ -8,9 +8,7 @@ use crate::image_inputs::put;
 use crate::layout::{Geometry, BLOCK};
 use crate::range::{self, Entry};
 use crate::record::MOST_BLOCKS;
-use crate::sector::{BODIES, CONTENTS, END, SECTOR};
-use crate::sound;
-use crate::store::Store;
+use crate::sector::{self, BODIES, CONTENTS, END, SECTOR};
 use crate::superblock::Superblock;
 
 /// The answer to a file that is too short: no refusal, a line.
@@ -116,11 +114,9 @@ impl Subject {
     /// None where the disk holds no record.
     pub fn new(image: Image) -> Option<Self> {
         let g = image.geometry;
-        let slots = [0, 1].map(|k| crate::sector::read(&image.bytes[slot(k)]).ok());
-        let [Some(one), Some(two)] = slots else { return None };
+        let [Ok(one), Ok(two)] = [0, 1].map(|k| sector::read(&image.bytes[slot(k)])) else { return None };
         let slots = [one, two];
-        // Question 2 of a store on this disk: both are well formed.
-        if !sound::system(&Store::new(g, slots)) {
+        if slots.iter().any(|superblock| !superblock.well_formed(g)) {
             return None;
         }
         let selected = Superblock::select(&slots);

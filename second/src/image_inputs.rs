@@ -17,9 +17,9 @@ const MOST_OF_A_RANGE: u64 = 65;
 /// Most disks are small, so that many can be looked at.
 fn geometry(rng: &mut Rng) -> Geometry {
     let n = match rng.below(100) {
-        0 => MOST_BLOCKS,
-        1 => 41 + rng.below(MOST_BLOCKS - 40),
-        2..=14 => 17 + rng.below(24),
+        0 | 1 => MOST_BLOCKS,
+        2 => 41 + rng.below(MOST_BLOCKS - 40),
+        3..=14 => 17 + rng.below(24),
         15..=24 => 1,
         _ => 2 + rng.below(15),
     };

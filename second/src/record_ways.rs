@@ -39,7 +39,7 @@ pub const WAYS: &[Way] = &[
     ("five arguments", |_, p| [&p.one[..], &p.two[..2]].concat()),
     ("N is no number in range", |r, p| with_n(&p.one, r.of(&WRONG))),
     ("N is 4,097", |_, p| with_n(&p.one, "4097")),
-    ("N is 257 to 4,096", |r, p| { let n = r.of(&[MOST_BLOCKS + 1, 4096, 300 + r.clone().below(3000)]); with_n(&p.one, &n.to_string()) }),
+    ("N is 257 to 4,096", |r, p| { let any = 258 + r.below(3838); let n = r.of(&[MOST_BLOCKS + 1, any, 4096]); with_n(&p.one, &n.to_string()) }),
     ("T is no number in range", |r, p| with_t(&p.one, r.of(&WRONG))),
     ("T is 16,777,217", |_, p| with_t(&p.one, "16777217")),
     ("N and T are no numbers in range", |r, p| with_t(&with_n(&p.one, r.of(&WRONG)), "0")),

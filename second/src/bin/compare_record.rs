@@ -19,7 +19,7 @@ const USAGE: &str = "compare-record [--seeds FIRST LAST] [--trace PROGRAM] [PROG
 const ENOUGH: u64 = 1000;
 
 /// One seed in so many also calls the programs in another way.
-const SELDOM: u64 = 4;
+const SELDOM: u64 = 3;
 
 struct Arguments {
     seeds: (u64, u64),
