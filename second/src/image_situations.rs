@@ -252,8 +252,10 @@ fn kept(day: &Played) -> bool {
     day.ledger.as_ref().is_some_and(|ledger| !ledger.is_empty())
 }
 
+type AtTheEnd = (&'static str, fn(&Played) -> bool);
+
 #[rustfmt::skip]
-const DAYS: &[(&str, fn(&Played) -> bool)] = &[
+const DAYS: &[AtTheEnd] = &[
     ("entries kept", kept),
     ("entries kept, a journal write in flight", |d| kept(d) && !d.store.disk.journal_writes.is_empty()),
     ("entries kept, a superblock in flight", |d| kept(d) && in_flight(d, false)),

@@ -134,12 +134,13 @@ fn read(file: &OsStr, n: &OsStr, t: &OsStr) -> Result<Image, Vec<u8>> {
 pub fn run(arguments: &[OsString], mut output: impl Write, mut errors: impl Write) -> bool {
     // Where this fails there is no place left to say so.
     let mut say = |what: &[u8]| drop(errors.write_all(&[b"record: ", what, b"\n"].concat()));
-    if arguments.is_empty() || arguments.len() % 3 != 0 {
+    let disks = arguments.chunks_exact(3);
+    if arguments.is_empty() || !disks.remainder().is_empty() {
         say(EXPECTED.as_bytes());
         return false;
     }
     let mut all = true;
-    for disk in arguments.chunks_exact(3) {
+    for disk in disks {
         match read(&disk[0], &disk[1], &disk[2]) {
             Ok(image) => {
                 let printed = output.write_all(rows(&image).as_bytes()).and_then(|()| output.flush());
