@@ -4,3 +4,6 @@ pub mod State
 pub mod Steps
 pub mod Laws
 pub mod Sectors
+pub mod Records
+pub mod Superblocks
+pub mod Parts
