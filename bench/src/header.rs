@@ -1,10 +1,10 @@
 //! The declarations of the library in C and in Rust, held to the Rattle source: the same functions, and each with the same parameters in the
-//! same order and by the same names.
+//! same order and by the same names, and with the same type of answer.
 use std::collections::BTreeMap;
 use std::fs;
 use std::path::{Path, PathBuf};
 
-/// By function: each parameter, or the two that a slice passes as, as `name: type` in Rust's terms.
+/// By function: each parameter, or the two that a slice passes as, as `name: type` in Rust's terms; and the answer's type.
 type Declared = BTreeMap<String, Vec<String>>;
 
 fn top() -> PathBuf {
@@ -15,14 +15,23 @@ fn text(path: PathBuf) -> String {
     fs::read_to_string(&path).unwrap_or_else(|e| panic!("{}: {e}", path.display()))
 }
 
-/// Each function whose declaration begins so, with its parameters as they are written.
-fn functions(source: &str, begin: &str, parameter: impl Fn(&str) -> Vec<String>) -> Declared {
+/// Each function whose declaration begins so, with its parameters as they are written. Its answer stands behind them, as `-> u8`, or is told.
+fn functions(
+    source: &str,
+    begin: &str,
+    answer: Option<&str>,
+    parameter: impl Fn(&str) -> Vec<String>,
+) -> Declared {
     let declared = source.split(begin).skip(1).filter(|rest| rest.starts_with("wokujani_"));
-    let parts = declared.filter_map(|rest| rest.split_once(')')?.0.split_once('('));
+    let parts = declared.filter_map(|rest| {
+        let ((name, list), tail) = rest.split_once(')').and_then(|(h, t)| Some((h.split_once('(')?, t)))?;
+        let behind = tail.strip_prefix(" -> ").and_then(|t| t.split(|c: char| !c.is_alphanumeric()).next());
+        Some((name, list, answer.or(behind)?))
+    });
     parts
-        .map(|(name, list)| {
+        .map(|(name, list, answer)| {
             let list = list.split(',').map(str::trim).filter(|p| !p.is_empty());
-            (name.to_string(), list.flat_map(&parameter).collect())
+            (name.to_string(), list.flat_map(&parameter).chain([format!("-> {answer}")]).collect())
         })
         .collect()
 }
@@ -62,21 +71,24 @@ fn in_c(parameter: &str) -> Vec<String> {
 fn in_rattle() -> Declared {
     let files = fs::read_dir(top().join("crates/linked/src")).expect("crate linked");
     let sources = files.map(|f| text(f.expect("a file").path()));
-    sources.flat_map(|s| functions(&s, "extern \"C\" fn ", passed)).collect()
+    sources.flat_map(|s| functions(&s, "extern \"C\" fn ", None, passed)).collect()
 }
 
 #[test]
 fn header_declares_the_library() {
     let ours = in_rattle();
-    assert!(ours.len() >= 15, "{ours:?}");
-    assert_eq!(functions(&text(top().join("include/wokujani.h")), "\nuint8_t ", in_c), ours);
+    assert!(ours.len() >= 21, "{ours:?}");
+    let header = text(top().join("include/wokujani.h"));
+    let answers = [("\nuint8_t ", "u8"), ("\nuint64_t ", "u64")];
+    let declared = answers.iter().flat_map(|(begin, answer)| functions(&header, begin, Some(answer), in_c));
+    assert_eq!(declared.collect::<Declared>(), ours);
 }
 
 #[test]
 fn bench_declares_the_library() {
     let ours = in_rattle();
     let plain = |p: &str| vec![p.to_string()];
-    let declared = functions(&text(top().join("bench/src/linked.rs")), "    fn ", plain);
+    let declared = functions(&text(top().join("bench/src/linked.rs")), "    fn ", None, plain);
     assert!(!declared.is_empty());
     for (name, parameters) in declared {
         assert_eq!(Some(&parameters), ours.get(&name), "{name}");

@@ -45,6 +45,44 @@ extern "C" {
         numbers: *mut u64,
         numbers_len: usize,
     ) -> u8;
+    fn wokujani_record(
+        n: u64,
+        t: u64,
+        disk: *const u8,
+        disk_len: usize,
+        pieces: *mut u8,
+        pieces_len: usize,
+        rbytes: *mut u8,
+        rbytes_len: usize,
+        rlens: *mut u16,
+        rlens_len: usize,
+        which: *mut u64,
+        found: *mut u64,
+        size: *mut u64,
+        slot: *mut u64,
+    ) -> u8;
+    fn wokujani_record_marked(
+        n: u64,
+        t: u64,
+        disk: *const u8,
+        disk_len: usize,
+        marks: *const u8,
+        marks_len: usize,
+        pieces: *mut u8,
+        pieces_len: usize,
+        rbytes: *mut u8,
+        rbytes_len: usize,
+        rlens: *mut u16,
+        rlens_len: usize,
+        which: *mut u64,
+        found: *mut u64,
+        size: *mut u64,
+        slot: *mut u64,
+    ) -> u8;
+    fn wokujani_ask_superblock(n: u64, t: u64, numbers: *const u64, numbers_len: usize) -> u8;
+    fn wokujani_select(counter1: u64, counter2: u64) -> u64;
+    fn wokujani_front(n: u64, t: u64, start: u64, len: u64, first: *mut u64, blocks: *mut u64) -> u8;
+    fn wokujani_back(n: u64, t: u64, start: u64, len: u64, first: *mut u64, blocks: *mut u64) -> u8;
     fn wokujani_ask_journal(
         n: u64,
         t: u64,
@@ -146,6 +184,25 @@ pub struct Lent {
     pub rlens: Vec<u16>,
 }
 
+/// Pieces and replay memory, as a record fills them.
+#[derive(Clone, Debug, PartialEq)]
+pub struct Replay {
+    pub pieces: Vec<u8>,
+    pub bytes: Vec<u8>,
+    pub lens: Vec<u16>,
+}
+
+/// A record: the selected slot (0, 1), the entries that are in replay memory, and their bytes.
+#[derive(Clone, Copy, Debug, PartialEq)]
+pub struct Record {
+    pub which: u64,
+    pub entries: u64,
+    pub bytes: u64,
+}
+
+/// A record's refusal: its number, and the slot (1, 2) that it is of, 0 where it is of none.
+pub type Recorded = Result<Record, (u8, u64)>;
+
 fn answer<T>(refusal: u8, value: T) -> Answer<T> {
     if refusal == 0 {
         Ok(value)
@@ -216,6 +273,75 @@ pub fn read_sector(sector: &[u8]) -> Answer<[u64; 5]> {
     let mut five = [0; 5];
     let q = unsafe { wokujani_read_sector(sector.as_ptr(), sector.len(), five.as_mut_ptr(), five.len()) };
     answer(q, five)
+}
+
+pub fn record(n: u64, t: u64, disk: &[u8], l: &mut Replay) -> Recorded {
+    let (mut r, mut slot) = (Record { which: 0, entries: 0, bytes: 0 }, 0);
+    let q = unsafe {
+        wokujani_record(
+            n,
+            t,
+            disk.as_ptr(),
+            disk.len(),
+            l.pieces.as_mut_ptr(),
+            l.pieces.len(),
+            l.bytes.as_mut_ptr(),
+            l.bytes.len(),
+            l.lens.as_mut_ptr(),
+            l.lens.len(),
+            &mut r.which,
+            &mut r.entries,
+            &mut r.bytes,
+            &mut slot,
+        )
+    };
+    answer(q, r).map_err(|q| (q, slot))
+}
+
+pub fn record_marked(n: u64, t: u64, disk: &[u8], marks: &[u8], l: &mut Replay) -> Recorded {
+    let (mut r, mut slot) = (Record { which: 0, entries: 0, bytes: 0 }, 0);
+    let q = unsafe {
+        wokujani_record_marked(
+            n,
+            t,
+            disk.as_ptr(),
+            disk.len(),
+            marks.as_ptr(),
+            marks.len(),
+            l.pieces.as_mut_ptr(),
+            l.pieces.len(),
+            l.bytes.as_mut_ptr(),
+            l.bytes.len(),
+            l.lens.as_mut_ptr(),
+            l.lens.len(),
+            &mut r.which,
+            &mut r.entries,
+            &mut r.bytes,
+            &mut slot,
+        )
+    };
+    answer(q, r).map_err(|q| (q, slot))
+}
+
+pub fn ask_superblock(n: u64, t: u64, numbers: &[u64]) -> u8 {
+    unsafe { wokujani_ask_superblock(n, t, numbers.as_ptr(), numbers.len()) }
+}
+
+pub fn select(counter1: u64, counter2: u64) -> u64 {
+    unsafe { wokujani_select(counter1, counter2) }
+}
+
+/// The first block and how many blocks.
+pub fn front(n: u64, t: u64, start: u64, len: u64) -> Answer<(u64, u64)> {
+    let (mut first, mut blocks) = (0, 0);
+    let q = unsafe { wokujani_front(n, t, start, len, &mut first, &mut blocks) };
+    answer(q, (first, blocks))
+}
+
+pub fn back(n: u64, t: u64, start: u64, len: u64) -> Answer<(u64, u64)> {
+    let (mut first, mut blocks) = (0, 0);
+    let q = unsafe { wokujani_back(n, t, start, len, &mut first, &mut blocks) };
+    answer(q, (first, blocks))
 }
 
 pub fn ask_journal(n: u64, t: u64, journal: &[u8], marks: &[u8]) -> u8 {

@@ -8,6 +8,7 @@ mod day;
 mod example;
 #[cfg(test)]
 mod header;
+#[cfg_attr(not(test), allow(dead_code))] // some are called by tests alone
 mod linked;
 mod plain;
 mod table;
