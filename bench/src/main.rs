@@ -2,6 +2,8 @@
 //! bench once NAME SIDE COUNT   one piece of work so often, by `ours` or `plain`: for an instruction counter
 #[cfg(test)]
 mod blank;
+#[cfg(test)]
+mod c;
 mod callgrind;
 mod day;
 #[cfg(test)]
@@ -11,6 +13,8 @@ mod header;
 #[cfg_attr(not(test), allow(dead_code))] // some are called by tests alone
 mod linked;
 mod plain;
+#[cfg(test)]
+mod record;
 mod table;
 mod works;
 

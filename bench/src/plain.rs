@@ -1,5 +1,5 @@
 //! The same work as a Rust programmer would write it: iterators, `copy_from_slice`, slices of slices. The same answers on the same input.
-use crate::linked::{Answer, Lent};
+use crate::linked::{Answer, Lent, Record, Recorded, Replay};
 
 pub const BLOCK: usize = 4096;
 const HEAD: usize = 4;
@@ -170,10 +170,92 @@ pub fn read_sector(sector: &[u8]) -> Answer<[u64; 5]> {
     read_fields(sector, |s| s.iter().all(|&b| b == 0))
 }
 
-/// The same by whole slices: the C library's memcmp, which is vectorised.
-pub fn read_sector_by_slices(sector: &[u8]) -> Answer<[u64; 5]> {
+/// By whole slices: the C library's memcmp, which is vectorised. Of at most a block.
+fn zeros(s: &[u8]) -> bool {
     static ZEROS: [u8; BLOCK] = [0; BLOCK];
-    read_fields(sector, |s| *s == ZEROS[..s.len()])
+    *s == ZEROS[..s.len()]
+}
+
+/// The same with `zeros`.
+pub fn read_sector_by_slices(sector: &[u8]) -> Answer<[u64; 5]> {
+    read_fields(sector, zeros)
+}
+
+/// A range in front of some bytes, by whole slices where that is faster.
+fn quick_range(s: &[u8]) -> Option<Range<'_>> {
+    let (head, rest) = s.split_at_checked(HEAD)?;
+    let blocks = usize::from(u16::from_le_bytes([head[0], head[1]]));
+    let entries = usize::from(u16::from_le_bytes([head[2], head[3]]));
+    if !(1..=MOST_ENTRIES).contains(&entries) {
+        return None;
+    }
+    let lens = rest.get(..entries)?;
+    let bytes = lens.iter().map(|&l| u32::from(l)).sum::<u32>() as usize;
+    let range = s.get(..blocks * BLOCK)?;
+    if blocks != blocks_of(entries, bytes) {
+        return None;
+    }
+    let (bodies, padding) = range[HEAD + entries..].split_at(bytes);
+    (!lens.contains(&0) && zeros(padding)).then_some(Range { lens, bodies, blocks })
+}
+
+/// The ranges of some bytes, to the last one.
+fn ranges(s: &[u8]) -> Option<Vec<Range<'_>>> {
+    let (mut rest, mut all) = (s, Vec::new());
+    while !rest.is_empty() {
+        let range = quick_range(rest)?;
+        rest = &rest[range.blocks * BLOCK..];
+        all.push(range);
+    }
+    Some(all)
+}
+
+/// The entries of ranges to replay memory, once all are known to parse: how many, and their bytes.
+fn fill(s: &[u8], bytes: &mut [u8], lens: &mut [u16]) -> Option<(u64, u64)> {
+    let (mut at, mut n) = (0, 0);
+    for range in ranges(s)? {
+        bytes[at..at + range.bodies.len()].copy_from_slice(range.bodies);
+        for (to, &l) in lens[n..n + range.lens.len()].iter_mut().zip(range.lens) {
+            *to = u16::from(l);
+        }
+        at += range.bodies.len();
+        n += range.lens.len();
+    }
+    Some((n as u64, at as u64))
+}
+
+fn well_formed(n: usize, t: usize, [_, start, len, address, length]: [u64; 5]) -> bool {
+    let (n, t) = (n as u64, t as u64);
+    let table = (2 + n) * BLOCK as u64;
+    start < n && len <= n && (address == table || address == table + t) && (1..=t).contains(&length)
+}
+
+/// The record of a disk.
+pub fn record(n: usize, t: usize, disk: &[u8], l: &mut Replay) -> Recorded {
+    let sector = |k: usize| disk.get(k * BLOCK..(k + 1) * BLOCK).ok_or(10).and_then(read_sector_by_slices);
+    let slots = [sector(0).map_err(|q| (q, 1))?, sector(1).map_err(|q| (q, 2))?];
+    let size = n * BLOCK;
+    let bounds = (1..=4096).contains(&n) && (1..=16_777_216).contains(&t);
+    let lent = l.pieces.len() == size && l.bytes.len() == size && l.lens.len() == size;
+    if !bounds || disk.len() != 2 * BLOCK + size || !lent {
+        return Err((1, 0));
+    }
+    if let Some(k) = slots.iter().position(|&s| !well_formed(n, t, s)) {
+        return Err((2, k as u64 + 1));
+    }
+    let which = usize::from(slots[1][0] == slots[0][0].wrapping_add(1));
+    let (start, len) = (slots[which][1] as usize, slots[which][2] as usize);
+    let journal = &disk[2 * BLOCK..];
+    let found = if start + len <= n {
+        fill(&journal[start * BLOCK..(start + len) * BLOCK], &mut l.bytes, &mut l.lens)
+    } else {
+        let (front, back) = (&journal[start * BLOCK..], &journal[..(start + len - n) * BLOCK]);
+        l.pieces[..front.len()].copy_from_slice(front);
+        l.pieces[front.len()..len * BLOCK].copy_from_slice(back);
+        fill(&l.pieces[..len * BLOCK], &mut l.bytes, &mut l.lens)
+    };
+    let (entries, bytes) = found.ok_or((7, 0))?;
+    Ok(Record { which: which as u64, entries, bytes })
 }
 
 pub fn ask_journal(n: usize, t: usize, journal: &[u8], marks: &[u8]) -> u8 {
