@@ -1,4 +1,5 @@
 //! bench              every piece of work, timed, as a table
+//! bench NAME..       the rows of these alone
 //! bench once NAME SIDE COUNT   one piece of work so often, by `ours` or `plain`: for an instruction counter
 #[cfg(test)]
 mod blank;
@@ -42,6 +43,12 @@ fn main() {
             table::whole_replay();
             day::all();
         }
-        _ => eprintln!("usage: bench, or bench once NAME ours|plain COUNT"),
+        ref names if names.iter().all(|n| works::all().iter().any(|w| w.0 == *n)) => {
+            table::head();
+            for (name, make) in works::all().into_iter().filter(|w| names.contains(&w.0)) {
+                table::row(name, make());
+            }
+        }
+        _ => eprintln!("usage: bench, bench NAME.., or bench once NAME ours|plain COUNT"),
     }
 }

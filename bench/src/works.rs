@@ -1,6 +1,7 @@
 //! Each piece of work, by the library and in plain Rust, on the same input, with a test that both leave the same.
-use crate::linked::{self, Answer, Lent};
+use crate::linked::{self, Answer, Lent, Replay};
 use crate::plain::{self, Machine, BLOCK};
+use std::cell::RefCell;
 use std::hint::black_box;
 use std::rc::Rc;
 
@@ -125,6 +126,67 @@ fn unpack(what: &'static str, blocks: usize, n: usize, size: u16) -> Work {
             p == plain::unpack(&c, &mut y.0, &mut y.1) && p.is_ok() && x == y
         }),
     }
+}
+
+/// A full disk: its interval is the whole ring from block `start` on, in ranges of `per` entries of `size` bytes, the last of which has as many
+/// as still fit.
+fn full_disk(n: usize, start: usize, per: usize, size: u16) -> Vec<u8> {
+    let mut disk = vec![0; (2 + n) * BLOCK];
+    let (bytes, lens) = entries(per, size);
+    let mut used = 0;
+    while used < n {
+        let fit = ((n - used) * BLOCK - 4) / (usize::from(size) + 1);
+        let at = (start + used) % n;
+        let taken = plain::write_range(&bytes, &lens, per.min(fit), &mut disk[2 * BLOCK..], at);
+        used += taken.expect("it fits") as usize;
+    }
+    for (slot, counter) in disk.chunks_exact_mut(BLOCK).zip([7, 8]) {
+        let five = [counter, start as u64, n as u64, ((2 + n) * BLOCK) as u64, 1];
+        plain::write_sector(five, slot).expect("a sector's length");
+    }
+    disk
+}
+
+fn replay_memory(n: usize) -> Replay {
+    Replay { pieces: vec![0xee; n * BLOCK], bytes: vec![0xee; n * BLOCK], lens: vec![0xeeee; n * BLOCK] }
+}
+
+/// The record of a full disk of n blocks. Both sides fill the same memory: how it lies to the disk's counts for a small one.
+fn record(what: &'static str, n: usize, disk: Vec<u8>) -> Work {
+    let disk = Rc::new(disk);
+    let (a, b, c) = (disk.clone(), disk.clone(), disk);
+    let memory = Rc::new(RefCell::new(replay_memory(n)));
+    let (ours, theirs) = (memory.clone(), memory);
+    Work {
+        what,
+        aim: Aim::Copy,
+        counted: (4096 / n as u64).min(200),
+        ours: Box::new(move || {
+            black_box(linked::record(n as u64, 4096, black_box(&a), &mut ours.borrow_mut())).unwrap();
+        }),
+        plain: Box::new(move || {
+            black_box(plain::record(n, 4096, black_box(&b), &mut theirs.borrow_mut())).unwrap();
+        }),
+        same: Box::new(move || {
+            let mut torn = c.to_vec();
+            *torn.last_mut().expect("not empty") ^= 1;
+            let alike = |disk: &[u8]| {
+                let (mut x, mut y) = (replay_memory(n), replay_memory(n));
+                let p = linked::record(n as u64, 4096, disk, &mut x);
+                (p == plain::record(n, 4096, disk, &mut y) && x == y).then_some(p.is_ok())
+            };
+            alike(&c) == Some(true) && alike(&torn).is_some()
+        }),
+    }
+}
+
+/// The same against a copy of the disk's bytes. It goes to the middle of a page, since a copy whose two ends lie at nearly the same place of
+/// a page takes up to ten times as long on some machines.
+fn record_by_copy(what: &'static str, n: usize, disk: Vec<u8>) -> Work {
+    let (b, mut to) = (disk.clone(), vec![0xee; disk.len() + BLOCK]);
+    let at = (b.as_ptr() as usize + BLOCK / 2).wrapping_sub(to.as_ptr() as usize) % BLOCK;
+    let plain = Box::new(move || black_box(&mut to[at..at + b.len()]).copy_from_slice(black_box(&b)));
+    Work { plain, ..record(what, n, disk) }
 }
 
 /// A superblock's numbers, the counter at its largest.
@@ -384,6 +446,49 @@ pub fn all() -> Vec<(&'static str, fn() -> Work)> {
         ("unpack-8", || unpack("unpacking of a full journal, N = 8, one-byte entries", 8, 1024, 1)),
         ("unpack-4096", || unpack("unpacking of a full journal, N = 4,096, one-byte entries", 4096, 1024, 1)),
         ("unpack-60", || unpack("unpacking of a full journal, N = 4,096, 60-byte entries", 4096, 67, 60)),
+        ("record-8", || {
+            record("the record of a full disk, N = 8, 60-byte entries", 8, full_disk(8, 0, 1024, 60))
+        }),
+        ("record-4096", || {
+            record(
+                "the record of a full disk, N = 4,096, 60-byte entries",
+                4096,
+                full_disk(4096, 0, 1024, 60),
+            )
+        }),
+        ("record-round", || {
+            let disk = full_disk(4096, 2050, 1024, 60);
+            record("the record of a full disk, N = 4,096, 60-byte entries, round the end", 4096, disk)
+        }),
+        ("record-small", || {
+            let disk = full_disk(4096, 0, 16, 60);
+            record("the record of a full disk, N = 4,096, 16 60-byte entries a range", 4096, disk)
+        }),
+        ("record-255", || {
+            record(
+                "the record of a full disk, N = 4,096, 255-byte entries",
+                4096,
+                full_disk(4096, 0, 256, 255),
+            )
+        }),
+        ("record-copy-8", || {
+            let disk = full_disk(8, 0, 1024, 60);
+            record_by_copy(
+                "the record of a full disk, N = 8, 60-byte entries, against memcpy of its bytes",
+                8,
+                disk,
+            )
+        }),
+        ("record-copy-4096", || {
+            let disk = full_disk(4096, 0, 1024, 60);
+            let what = "the record of a full disk, N = 4,096, 60-byte entries, against memcpy of its bytes";
+            record_by_copy(what, 4096, disk)
+        }),
+        ("record-copy-round", || {
+            let disk = full_disk(4096, 2050, 1024, 60);
+            let what = "the record of a full disk, N = 4,096, round the end, against memcpy of its bytes";
+            record_by_copy(what, 4096, disk)
+        }),
         ("sector-write", || sector_writer("a superblock written as a sector")),
         ("sector-read", || sector_reader("a sector read", plain::read_sector)),
         ("sector-slices", || {
