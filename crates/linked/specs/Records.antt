@@ -1,6 +1,7 @@
 -- The record of a disk as numbers: what a caller is told of an answer. Assumes nothing.
 use Prim.Native.Nat.{ℕ}
 use mathlib.Core.List.{List}
+use mathlib.Core.Path.{_≡_, subst}
 use Rattle.image.specs.declared.Recorded.{Recorded}
 use Rattle.image.specs.declared.Recorded.the-variants as recorded
 use Rattle.image.specs.Image.{Lent, unmarked, marked, recordOf, recordLent}
@@ -40,3 +41,14 @@ foundAfter (recorded.Refused q k) old = old
 unfoldable pub sizeAfter : Recorded → ℕ → ℕ
 sizeAfter (recorded.Held s w n b) old = b
 sizeAfter (recorded.Refused q k) old = old
+
+-- all that is told of an answer, after numbers that were `w`, `f` and `b`; and of what the answer is
+abbrev Told : (q which found size slot w f b : ℕ) → Recorded → Type 0
+Told q which found size slot w f b r =
+    (q ≡ numberOf r)
+    × ((which ≡ whichAfter r w)
+    × ((found ≡ foundAfter r f)
+    × ((size ≡ sizeAfter r b) × (slot ≡ slotOf r))))
+
+pub told-of : (q which found size slot w f b : ℕ) (r x : Recorded) → r ≡ x → Told q which found size slot w f b r → Told q which found size slot w f b x
+told-of q which found size slot w f b r x = subst (Told q which found size slot w f b)

@@ -1,7 +1,4 @@
-use mathlib.Core.Path.{_∙_, ap}
-use denote.Ref.{now}
-use Rattle.image.specs.declared.Recorded.{Recorded}
-use Rattle.linked.specs.Records.{numberOf, slotOf, whichAfter, foundAfter, sizeAfter}
+use Rattle.linked.specs.Records.{told-of}
 use borrow.Author.Needs.{needs}
 use Rattle.linked.proofs.records.wokujani_record.Statement.{statement}
 use Rattle.linked.proofs.records.wokujani_record.Tie as tie
@@ -23,22 +20,9 @@ same-length-3 c = search needs
 
 returns : tie.Need-returns
 returns c =
-    let a = c .before .before .before .before .before .before .before .before .before .before .before .before .before .before .before .before .before .before .before .args in
-    let h = c .tell .ensures in
     let f = c .before .before .before .before .before .before .before .before .before .before .before .«record» .ensures in
-    let e = f .0 in (
-      h .0 ∙ ap numberOf e,
-      (
-        f .1,
-        (
-          h .1 .0 ∙ ap (λ (x : Recorded). whichAfter x (now (a .which))) e,
-          (
-            h .1 .1 .0 ∙ ap (λ (x : Recorded). foundAfter x (now (a .found))) e,
-            (h .1 .1 .1 .0 ∙ ap (λ (x : Recorded). sizeAfter x (now (a .size))) e, h .1 .1 .1 .1 ∙ ap slotOf e),
-          ),
-        ),
-      ),
-    )
+    let h = told-of _ _ _ _ _ _ _ _ _ _ (f .0) (c .tell .ensures) in
+    (h .0, (f .1, h .1))
 
 pub wokujani-record-spec : {M : Type 1} → statement M
 wokujani-record-spec =
