@@ -2,7 +2,6 @@
 // which of them a store would load from. docs/SECTORS.md has the rows and what is said on standard error.
 mod input;
 mod rows;
-mod text;
 
 use libc::STDERR_FILENO;
 use libc::STDOUT_FILENO;
