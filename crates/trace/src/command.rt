@@ -1,6 +1,6 @@
 // A line as a step of the store.
 use super::brought;
-use super::numbers;
+use super::figures;
 use calls::Step;
 use layout::Location;
 use superblock::MaybeId;
@@ -120,7 +120,7 @@ fn with_two(line: &[u8], w: Word, a: u64, b: u64) -> Command {
 
 // Every step but those that bring entries.
 fn with_numbers(line: &[u8], w: Word) -> Command {
-    let n = numbers::read_numbers(line, w.to);
+    let n = figures::read_numbers(line, w.to);
     if n.ok {
         let count = n.count;
         let a = n.values[0];

@@ -6,6 +6,7 @@ use super::row;
 use super::stored;
 use super::taking;
 use layout::Geometry;
+use requests::Slots;
 use runs::lesser;
 use store::Store;
 
@@ -14,6 +15,13 @@ pub(crate) struct Day {
     pub store: Store,
     pub row: u64,
     pub begun: bool,
+}
+
+// What the disk's slots hold.
+pub(crate) fn slots(d: Day) -> Slots {
+    let s = d.store;
+    let k = s.disk;
+    k.slots
 }
 
 // The number after this one; the largest stays.

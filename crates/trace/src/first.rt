@@ -1,5 +1,5 @@
 // The first line: a disk without requests.
-use super::numbers;
+use super::figures;
 use layout::Geometry;
 use layout::Location;
 use requests::Slots;
@@ -37,7 +37,7 @@ fn has_disk(g: Geometry) -> bool {
 pub(crate) fn parse(line: &[u8]) -> First {
     let w = words::next_word(line, 0);
     let named = words::is(line, w, b"disk");
-    let n = numbers::read_numbers(line, w.to);
+    let n = figures::read_numbers(line, w.to);
     let v = n.values;
     let count = n.count;
     let geometry = Geometry {

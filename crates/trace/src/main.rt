@@ -1,12 +1,13 @@
 // A day of the store, traced: the first line of input is a disk, lines behind it may say what its blocks hold, each other line is a step, and a row of
 // output says what it came to. A line that isn't a step says so with its number, alters nothing, and the day goes on. Only the line and the next chunk
-// of input are held.
+// of input are held. Where an argument names a file, the disk's bytes are written to it at the day's end.
 mod brought;
 mod command;
 mod day;
+mod figures;
 mod first;
 mod input;
-mod numbers;
+mod kept;
 mod row;
 mod stored;
 mod taking;
@@ -33,7 +34,8 @@ fn turns_left(turns: u64, read: bool) -> u64
     0
 }
 
-// Each turn takes one line; the turns are counted down from a number that no day uses up.
+// Each turn takes one line; the turns are counted down from a number that no day uses up. At the day's end the disk
+// may be kept.
 fn run(
     mut d: Day,
     g: Geometry,
@@ -66,6 +68,8 @@ fn run(
         );
         turns = turns_left(turns, i.whole);
     }
+    let last = day::slots(d);
+    kept::keep(g, last, blocks);
 }
 
 // The first line as a disk.
@@ -110,7 +114,8 @@ fn play(
     );
 }
 
-fn main() {
+// The day, by memory for 32 blocks.
+fn whole_day() {
     let mut chunk = io::large_buffer();
     let mut line = [0u8; 16384];
     let mut bytes = [0u8; 65536];
@@ -150,4 +155,11 @@ fn main() {
         &mut blocks,
         &mut marks,
     );
+}
+
+fn main() {
+    if kept::are_too_many() {
+        return;
+    }
+    whole_day();
 }

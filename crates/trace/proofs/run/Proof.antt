@@ -41,6 +41,12 @@ loop-again c =
     let v = c .before .before .before .before .before .before .before .before .before .before .before .before .before .before .before .before .before .before .before .before .before .before .before .before .before .before .before .before .before .before .before .before .loop .inv in
     (r .0 ∙ v .0, (r .1 .0 ∙ v .1 .0, (k .0 ∙ v .1 .1 .0, (k .1 .0 ∙ v .1 .1 .1 .0, (k .1 .1 .0 ∙ v .1 .1 .1 .1 .0, (k .1 .1 .1 .0 ∙ v .1 .1 .1 .1 .1 .0, (k .1 .1 .1 .1 .0 ∙ v .1 .1 .1 .1 .1 .1 .0, (k .1 .1 .1 .1 .1 .0 ∙ v .1 .1 .1 .1 .1 .1 .1 .0, k .1 .1 .1 .1 .1 .1 .0 ∙ v .1 .1 .1 .1 .1 .1 .1 .1))))))))
 
+slots-requires : tie.Need-slots-requires Inv-loop μ-loop
+slots-requires c κs = search needs
+
+keep-requires : tie.Need-keep-requires Inv-loop μ-loop
+keep-requires c κs = search needs
+
 same-length : tie.Need-same-length Inv-loop μ-loop
 same-length c = search needs
 
@@ -83,6 +89,8 @@ run-spec =
     turns-left-requires
     loop-less
     loop-again
+    slots-requires
+    keep-requires
     same-length
     same-length-2
     same-length-3

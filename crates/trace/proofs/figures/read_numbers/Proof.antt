@@ -1,7 +1,7 @@
 use Prim.Native.Nat.{_-_}
 use borrow.Author.Needs.{needs}
-use Rattle.trace.proofs.numbers.read_numbers.Statement.{statement}
-use Rattle.trace.proofs.numbers.read_numbers.Tie as tie
+use Rattle.trace.proofs.figures.read_numbers.Statement.{statement}
+use Rattle.trace.proofs.figures.read_numbers.Tie as tie
 
 abbrev Inv-loop : tie.InvT-loop
 Inv-loop line at n₀ i₀ turn₀ n i turn = Unit {0}
