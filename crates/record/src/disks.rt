@@ -16,7 +16,7 @@ use runs::lesser;
 use sector::SECTOR_SIZE;
 use superblock::Superblock;
 
-const HEAD_SIZE: usize = 8192;
+const HEAD_SIZE: usize = Geometry::JOURNAL_START_ADDR as usize;
 
 // The number of a refusal by the interval's own bytes.
 const NO_RANGES: u8 = 7;

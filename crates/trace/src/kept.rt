@@ -7,7 +7,7 @@ use requests::Slots;
 use runs::lesser;
 use text::put;
 
-const HEAD_SIZE: usize = 8192;
+const HEAD_SIZE: usize = Geometry::JOURNAL_START_ADDR as usize;
 
 // More arguments than one, which a line says.
 pub(crate) fn are_too_many() -> bool {
