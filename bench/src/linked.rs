@@ -1,5 +1,5 @@
-//! The proved functions, declared as the static library has them, and each behind a safe one. Nothing checks these declarations against
-//! the Rattle source, so they stand in one place: a slice is a pointer and a length, `&mut u64` a pointer.
+//! The proved functions, declared as the static library has them, and each behind a safe one: a slice is a pointer and a length,
+//! `&mut u64` a pointer. The compiler doesn't check them against the Rattle source; the test in header.rs does.
 extern "C" {
     fn wokujani_write_range(
         bytes: *const u8,
