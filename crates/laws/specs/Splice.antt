@@ -158,6 +158,26 @@ module _ {ℓ} {A : Type ℓ} where
       long : length (take j s) ≡ j
       long = length-take-le j s (omega (arith, h))
 
+  -- the same by parts: the next m elements of s, from the part of it that is left
+  pub copy-part : (x d : List A) (at : ℕ) (s : List A) (j m k : ℕ) → x ≡ splice d at (take j s) → m ≤ k → j + m ≤ length s → at + j ≤ length d
+      → splice x (at + j) (take m (take k (drop j s))) ≡ splice d at (take (j + m) s)
+  copy-part x d at s j m k e h l r =
+      (λ i. splice (e i) (at + sym long i) (take-take m k (drop j s) h i))
+      ∙ splice-then d at (take j s) (take m (drop j s)) (omega (arith, long))
+      ∙ ap (splice d at) (sym (take-add j m s))
+    where
+      long : length (take j s) ≡ j
+      long = length-take-le j s (omega (arith, l))
+
+  -- what was copied to the front of a memory lies there
+  pub copied-front : (x d s : List A) (n : ℕ) → x ≡ splice d 0 (take n s) → n ≤ length s → take n x ≡ take n s
+  copied-front x d s n e h =
+      (λ i. take ((sym long ∙ sym (zero-add (length (take n s)))) i) (e i))
+      ∙ take-splice-through d 0 (take n s) (omega arith)
+    where
+      long : length (take n s) ≡ n
+      long = length-take-le n s h
+
   pub fill-turn : (x d : List A) (at j : ℕ) (v : A) → x ≡ splice d at (replicate j v) → at + j < length d
       → set x (at + j) v ≡ splice d at (replicate (j + 1) v)
   fill-turn x d at j v e k =
@@ -266,6 +286,14 @@ module _ {ℓ} {A : Type ℓ} where
   pub copy-end : (x d : List A) (at : ℕ) (s : List A) (j : ℕ) → x ≡ splice d at (take j s) → j ≡ min (length d - at) (length s) → x ≡ clipped d at s
   unfolding clipped
   copy-end x d at s j e h = e ∙ ap (splice d at) (ap (λ (n : ℕ). take n s) h ∙ take-min s (length d - at) (length s) refl)
+
+  -- the same from the lesser of the place and the memory's end on
+  pub copy-from : (x d : List A) (at place n : ℕ) (s : List A) → place ≡ min at (length d) → n ≡ min (length d - place) (length s) → x ≡ splice d place (take n s) → x ≡ clipped d at s
+  copy-from x d at place n s hp hn e = copy-end x d place s n e hn ∙ ap (λ (p : ℕ). clipped d p s) hp ∙ clipped-min d at s
+
+  -- a loop that ends at the number it was given
+  pub copy-all : (x d : List A) (at : ℕ) (s : List A) (j n : ℕ) → x ≡ splice d at (take j s) → j ≡ n → x ≡ splice d at (take n s)
+  copy-all x d at s j n e h = e ∙ ap (λ (m : ℕ). splice d at (take m s)) h
 
   pub fill-end : (x d : List A) (at n j : ℕ) (v : A) → x ≡ splice d at (replicate j v) → j ≡ min (length d - at) n → x ≡ clipped d at (replicate n v)
   unfolding clipped

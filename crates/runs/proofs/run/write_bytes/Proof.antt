@@ -1,74 +1,53 @@
-use Prim.Native.Nat.{_-_, _≤_}
 use borrow.Author.Needs.{needs}
-use lib.ListN.{length, take, length-set}
-use mathlib.Core.Path.{_≡_, refl}
-use native.Mathlib.Omega.{arith}
-use Rattle.laws.specs.Splice.{splice, splice-none, copy-turn, copy-end}
+use Rattle.laws.specs.Splice.{copy-from}
 use Rattle.runs.proofs.run.write_bytes.Statement.{statement}
 use Rattle.runs.proofs.run.write_bytes.Tie as tie
 
-abbrev Inv-loop : tie.InvT-loop
-Inv-loop src dst₀ at left n j₀ dst j = (j ≤ n) × (length dst ≡ length dst₀) × (dst ≡ splice dst₀ at (take j src))
-
-abbrev μ-loop : tie.MeasureT-loop
-μ-loop src dst₀ at left n j₀ dst j = n - j
-
-room-requires : tie.Need-room-requires Inv-loop μ-loop
-room-requires c κs = search needs
-
-lesser-requires : tie.Need-lesser-requires Inv-loop μ-loop
+lesser-requires : tie.Need-lesser-requires
 lesser-requires c κs = search needs
 
-loop-holds : tie.Need-loop-holds Inv-loop μ-loop
-loop-holds c = (omega arith, refl, splice-none _ _)
+sub-lesser : tie.Need-sub-lesser
+sub-lesser c = search needs
 
-shared-slice-read-dst : tie.Need-shared-slice-read-dst Inv-loop μ-loop
-shared-slice-read-dst c = omega arith
+lesser-requires-2 : tie.Need-lesser-requires-2
+lesser-requires-2 c κs = search needs
 
-add-dst : tie.Need-add-dst Inv-loop μ-loop
-add-dst c = omega arith
+put-requires : tie.Need-put-requires
+put-requires c κs = search needs
 
-slice-write-dst : tie.Need-slice-write-dst Inv-loop μ-loop
-slice-write-dst c = omega arith
-
-add-j : tie.Need-add-j Inv-loop μ-loop
-add-j c = omega arith
-
-loop-less : tie.Need-loop-less Inv-loop μ-loop
-loop-less c = omega arith
-
-loop-again : tie.Need-loop-again Inv-loop μ-loop
-loop-again c =
-    let i = c .before .before in
-    let a = i .before .before .before .before .before .args in (
-      omega arith,
-      simp length-set (omega arith),
-      copy-turn _ (a .dst .now) (a .at) (a .src .now) (i .loop .j) 0 (i .loop .inv .2) (omega arith) (omega arith),
-    )
-
-same-length : tie.Need-same-length Inv-loop μ-loop
+same-length : tie.Need-same-length
 same-length c = search needs
 
-returns : tie.Need-returns Inv-loop μ-loop
+returns : tie.Need-returns
 returns c =
-    let i = c .before in
-    let a = i .before .before .before .before .before .args in
-    copy-end _ (a .dst .now) (a .at) (a .src .now) (i .loop .j) (i .loop .inv .2) (omega arith)
+    let w = c .before .before in
+    let n = w .before .before .before in
+    let a = n .before .before .before .before .args in
+    copy-from _ (a .dst .now) (a .at) (n .before .lesser .result) (n .lesser2 .result) (a .src .now) (n .before .lesser .ensures) (n .lesser2 .ensures) (w .put .ensures)
+
+put-parts-requires : tie.Need-put-parts-requires
+put-parts-requires c κs = search needs
+
+same-length-2 : tie.Need-same-length-2
+same-length-2 c = search needs
+
+returns-2 : tie.Need-returns-2
+returns-2 c =
+    let w = c .before .before in
+    let n = w .before .before .before in
+    let a = n .before .before .before .before .args in
+    copy-from _ (a .dst .now) (a .at) (n .before .lesser .result) (n .lesser2 .result) (a .src .now) (n .before .lesser .ensures) (n .lesser2 .ensures) (w .put-parts .ensures)
 
 pub write-bytes-spec : {M : Type 1} → statement M
 write-bytes-spec =
     tie.close
     (tie.spec
-    Inv-loop
-    μ-loop
-    room-requires
     lesser-requires
-    loop-holds
-    shared-slice-read-dst
-    add-dst
-    slice-write-dst
-    add-j
-    loop-less
-    loop-again
+    sub-lesser
+    lesser-requires-2
+    put-requires
     same-length
-    returns)
+    returns
+    put-parts-requires
+    same-length-2
+    returns-2)
