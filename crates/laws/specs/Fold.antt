@@ -9,6 +9,7 @@ use native.Mathlib.Omega.{arith}
 use lib.Dec.{eqb}
 use borrow.Author.Tests.{eq-eqb, eqb-true}
 use lib.ListN.{length, take, drop, getD, replicate, take-append-drop}
+use lib.Seq.{drop-drop}
 use Rattle.laws.specs.Choice.{also, also-left, also-right, also-both, also-assoc, also-true, false-true, not-so}
 use Rattle.laws.specs.Part.{drop-step, take-step, drop-end}
 
@@ -41,6 +42,10 @@ sum-append (x ∷ xs) ys = rw (sum-append xs ys) (sym (add-assoc x (sum xs) (sum
 
 pub sum-split : (n : ℕ) (xs : List ℕ) → sum (take n xs) + sum (drop n xs) ≡ sum xs
 sum-split n xs = sym (sum-append (take n xs) (drop n xs)) ∙ ap sum (take-append-drop n xs)
+
+-- what is left, from the next k on
+pub sum-part : (xs : List ℕ) (i k : ℕ) → sum (take k (drop i xs)) + sum (drop (i + k) xs) ≡ sum (drop i xs)
+sum-part xs i k = ap (λ (ys : List ℕ). sum (take k (drop i xs)) + sum ys) (sym (drop-drop k i xs)) ∙ sum-split k (drop i xs)
 
 -- one number, n times
 pub sum-replicate : (n k : ℕ) → sum (replicate n k) ≡ n * k
@@ -90,6 +95,15 @@ module _ {ℓ} {A : Type ℓ} (p : A → Bool) where
         ap (λ (x : Bool). also x (every p (drop (i + 1) xs))) q
         ∙ also-assoc a (p (getD xs i d)) (every p (drop (i + 1) xs))
         ∙ ap (also a) (sym (every-step xs i d h))
+        ∙ e
+
+    -- a turn of the loop over parts of k elements
+    pub flag-part : (k : ℕ) (a b : Bool) → also a (every p (drop i xs)) ≡ every p xs → b ≡ also a (every p (take k (drop i xs)))
+        → also b (every p (drop (i + k) xs)) ≡ every p xs
+    flag-part k a b e q =
+        (λ j. also (q j) (every p (sym (drop-drop k i xs) j)))
+        ∙ also-assoc a (every p (take k (drop i xs))) (every p (drop k (drop i xs)))
+        ∙ ap (also a) (sym (every-append (take k (drop i xs)) (drop k (drop i xs))) ∙ ap (every p) (take-append-drop k (drop i xs)))
         ∙ e
 
     pub flag-end : (a : Bool) → length xs ≤ i → also a (every p (drop i xs)) ≡ every p xs → a ≡ every p xs

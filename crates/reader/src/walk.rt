@@ -7,14 +7,17 @@ ghost use Rattle.laws.specs.Choice.{also};
 ghost use Rattle.laws.specs.Fold.{sum, every};
 ghost use Rattle.range.specs.Form.{MostEntryLength, okLength};
 
+// So many lengths are added at once.
+const PART: usize = 64;
+
 fn wide(x: u8) -> u32
     ensures { λ r. ⌜ (r ≡ x) × (r < 256) ⌝ }
 {
     x as u32
 }
 
-// The sum of the lengths, which has 32 bits.
-pub(crate) fn total(lengths: &[u8]) -> u32
+// The sum of a few lengths.
+fn total_in(lengths: &[u8]) -> u32
     requires { ⌜ length (now lengths) < 65536 ⌝ }
     ensures { λ r. ⌜ (r ≡ sum (now (lengths .entry))) × (r ≤ 255 * length (now (lengths .entry))) ⌝ }
 {
@@ -25,6 +28,20 @@ pub(crate) fn total(lengths: &[u8]) -> u32
         i += 1;
     }
     bytes
+}
+
+// The sum of the lengths, which has 32 bits. By parts of one size, each of which the compiler adds as bytes, 16 by one instruction.
+pub(crate) fn total(lengths: &[u8]) -> u32
+    requires { ⌜ length (now lengths) < 65536 ⌝ }
+    ensures { λ r. ⌜ (r ≡ sum (now (lengths .entry))) × (r ≤ 255 * length (now (lengths .entry))) ⌝ }
+{
+    let mut bytes: u32 = 0;
+    let mut i = 0;
+    while PART <= lengths.len() - i {
+        bytes += total_in(&lengths[i..i + PART]);
+        i += PART;
+    }
+    bytes + total_in(&lengths[i..])
 }
 
 // A byte can't be above the greatest length.
