@@ -2,28 +2,11 @@
 use layout::Geometry;
 use layout::Location;
 use sector::NUMBER_COUNT;
+use sector::superblock_of;
 use superblock::Superblock;
 use superblock::select_superblock_index;
 ghost use mathlib.Core.Path.{_≡_};
-ghost use lib.ListN.{length};
-ghost use Rattle.sector.specs.Sector.{superblockOf};
 ghost use Rattle.linked.specs.Superblocks.{askSuperblock, countedBy, selectOf};
-
-fn superblock_of(m: &[u64]) -> Superblock
-    requires { ⌜ length (now m) ≡ 5 ⌝ }
-    ensures { λ r. ⌜ r ≡ superblockOf (now (m .entry)) ⌝ }
-{
-    let loc = Location {
-        addr: m[3],
-        len: m[4],
-    };
-    Superblock {
-        counter: m[0],
-        journalStart: m[1],
-        journalLen: m[2],
-        indirectionTableLoc: loc,
-    }
-}
 
 // Questions 1 and 2 of a superblock's five numbers, in the order of `wokujani_read_sector`: 1 where N or T is out of bounds or there are not
 // five, 2 where no store may have such a superblock.

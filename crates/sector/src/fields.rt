@@ -15,7 +15,7 @@ ghost use mathlib.Core.Path.{_≡_};
 ghost use lib.ListN.{length};
 ghost use Rattle.laws.specs.Choice.{andThen, ask};
 ghost use Rattle.sector.specs.Fields.{Fields};
-ghost use Rattle.sector.specs.Sector.{SectorSize, sectorOf, askFields};
+ghost use Rattle.sector.specs.Sector.{SectorSize, sectorOf, askFields, numbersIn};
 
 // Numbers and their check number as a sector, run by run: the contents, zeros, the bodies, zeros.
 pub(crate) fn put_fields(contents: &[u8], numbers: &[u64], sector: &mut [u8])
@@ -49,10 +49,11 @@ fn first_no(contents: bool, blank: bool, checked: bool) -> u8
     12
 }
 
-// The questions of 4,096 bytes. The numbers are read into `numbers` behind the look for zeros, where the compiler joins their bytes.
+// The questions of 4,096 bytes, and their numbers, which are read behind the look for zeros, where the compiler joins their bytes.
 pub(crate) fn ask_fields(contents: &[u8], numbers: &mut [u64], sector: &[u8]) -> u8
     requires { ⌜ Fields (now contents) (length (now numbers)) × (length (now sector) ≡ SectorSize) ⌝ }
     ensures { λ r. ⌜ r ≡ askFields (length (now (numbers .entry))) (now (sector .entry)) ⌝ }
+    ensures { λ _. ⌜ now (numbers .exit) ≡ numbersIn (length (now (numbers .entry))) (now (sector .entry)) ⌝ }
 {
     let head = contents.len();
     let last = BODIES_START + numbers.len() * BODY_SIZE;

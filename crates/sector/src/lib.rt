@@ -3,6 +3,7 @@
 //   write_sector   a superblock into a lent sector; a 10 where the lent bytes aren't 4,096
 //   ask_sector     the questions of a sector: 10 another length or other contents, 11 a byte that should be zero, 12 a wrong check number
 //   read_sector    the superblock that a sector holds, or the number of the question that was answered no
+//   superblock_of  the superblock that a sector's numbers make
 //   select         which of two sectors a store would load from, and why
 // Every function is total. Any five numbers make a superblock here: whether it is well formed is asked by the loader.
 mod check;
@@ -14,6 +15,7 @@ mod write;
 pub use check::check_number;
 pub use read::ask_sector;
 pub use read::read_sector;
+pub use read::superblock_of;
 pub use slots::select;
 use superblock::Superblock;
 pub use write::write_sector;

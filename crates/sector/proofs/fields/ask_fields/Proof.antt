@@ -80,13 +80,15 @@ returns c =
     let b = g .before .before in
     let s = b .before .before .before .before .before in
     let blank = and-also (g .zeros .result) (r .zeros2 .result) ∙ (λ i. also (g .zeros .ensures i) (r .zeros2 .ensures i)) in
-    let check = k .check-number .ensures ∙ ap checkNumber (n .read-numbers .ensures) in
-    c .first-no .ensures
-    ∙ (λ i.
-    andThen (ask 10 (b .same-bytes .ensures i))
-    (andThen (ask 11 (blank i))
-    (ask 12 (eqb (f .number-at .ensures i) (check i)))))
-    ∙ sym (ask-parts (s .args .contents .now) (s .args .sector .now) (length (s .args .numbers .now)) (s .pre .0) (s .pre .1))
+    let check = k .check-number .ensures ∙ ap checkNumber (n .read-numbers .ensures) in (
+      c .first-no .ensures
+          ∙ (λ i.
+          andThen (ask 10 (b .same-bytes .ensures i))
+          (andThen (ask 11 (blank i))
+          (ask 12 (eqb (f .number-at .ensures i) (check i)))))
+          ∙ sym (ask-parts (s .args .contents .now) (s .args .sector .now) (length (s .args .numbers .now)) (s .pre .0) (s .pre .1)),
+      n .read-numbers .ensures,
+    )
 
 pub ask-fields-spec : {M : Type 1} → statement M
 ask-fields-spec =
