@@ -7,18 +7,18 @@ use mathlib.Core.Option.{Option, some}
 use native.Mathlib.Omega.{arith}
 use lib.Dec.{leb}
 use borrow.Author.Tests.{leb-true, le-leb}
-use lib.ListN.{length, replicate, length-replicate}
+use lib.ListN.{length, replicate, length-replicate, replicate-append-replicate}
 use Rattle.laws.specs.Choice.{also, also-left, also-right, also-both}
-use Rattle.laws.specs.Fold.{sum, every, sum-replicate}
-use Rattle.laws.specs.Cut.{cut, flat, lengths, length-cut, flat-append, lengths-cut, flat-even}
+use Rattle.laws.specs.Fold.{sum, every, Each, sum-replicate}
+use Rattle.laws.specs.Cut.{cut, flat, lengths, length-cut, flat-append, lengths-append, lengths-cut, flat-even}
 use Rattle.range.specs.Form as Form
 pub use Rattle.range.specs.Form.{MostEntries, MostEntryLength}
-use Rattle.range.specs.Form.{Entry, BlockSize, LengthWidth, okLength, blocksAllAt, parseAllAt}
+use Rattle.range.specs.Form.{Entry, BlockSize, LengthWidth, okLength, blocksAllAt, encodeAllAt, parseAllAt, allParse, allEntries}
 use Rattle.range.specs.Lengths.{ok-low, ok-high, ok-yes}
 use Rattle.range.specs.Blocks.{format-sizes, blocks-some, length-encodeAt}
 use Rattle.range.specs.Ranges.{parseAll-none, parseAll-parses, parseAll-entries, parseAll-append, encodeAll-one, parseAll-encodeAll, allEntries-count, allEntries-bytes, allEntries-each}
 use Rattle.codec.specs.Codec.{JournalRange, SizedBlocks, EntriesFit, Codec}
-use Rattle.codec.specs.Ranges.{Range, blocks}
+use Rattle.codec.specs.Ranges.{Range, Good, blocks, codes}
 
 -- the test of what one range can hold: from 1 to 1,024 entries of 1 to 255 bytes
 abbrev pub MostHeld : ℕ
@@ -97,26 +97,27 @@ format-some es = omega (arith, length-encodeBlocks es, blocks-some LengthWidth e
 pub format-size : (es : List Entry) → SizedBlocks (length (encodeBlocks es)) (encodeBlocks es)
 format-size es = lengths-encodeBlocks es ∙ ap (λ (n : ℕ). replicate n BlockSize) (sym (length-encodeBlocks es))
 
--- what parses: how many entries, their bytes, and the length of each
+-- what parses: the bytes do, to the same entries; how many they are, their bytes, and the length of each
 module _ (bs : JournalRange) (es : List Entry) (p : parseBlocks bs ≡ some es) where
-  pub format-few : length es ≤ length (flat bs)
+  pub format-parses : allParse (flat bs) ≡ true
   unfolding parseBlocks
-  format-few =
-      let n = allEntries-count LengthWidth MostEntryLength (flat bs) (parseAll-parses LengthWidth MostEntryLength (flat bs) es p) in
-      omega (arith, ap {B = ℕ} length (parseAll-entries LengthWidth MostEntryLength (flat bs) es p))
+  format-parses = parseAll-parses LengthWidth MostEntryLength (flat bs) es p
+
+  pub format-entries : allEntries (flat bs) ≡ es
+  unfolding parseBlocks
+  format-entries = parseAll-entries LengthWidth MostEntryLength (flat bs) es p
+
+  pub format-few : length es ≤ length (flat bs)
+  format-few = let n = allEntries-count LengthWidth MostEntryLength (flat bs) format-parses in omega (arith, ap {B = ℕ} length format-entries)
 
   pub format-small : sum (lengths es) ≤ length (flat bs)
-  unfolding parseBlocks
-  format-small =
-      let n = allEntries-bytes LengthWidth MostEntryLength (flat bs) (parseAll-parses LengthWidth MostEntryLength (flat bs) es p) in
-      omega (arith, ap (λ (l : List Entry). sum (lengths l)) (parseAll-entries LengthWidth MostEntryLength (flat bs) es p))
+  format-small = let n = allEntries-bytes LengthWidth MostEntryLength (flat bs) format-parses in omega (arith, ap (λ (l : List Entry). sum (lengths l)) format-entries)
 
   pub format-fit : EntriesFit MostEntryLength es
-  unfolding parseBlocks
   format-fit =
       lengths-fit MostEntryLength es
-      (ap (λ (l : List Entry). every (okLength MostEntryLength) (lengths l)) (sym (parseAll-entries LengthWidth MostEntryLength (flat bs) es p))
-      ∙ allEntries-each LengthWidth MostEntryLength (flat bs) (parseAll-parses LengthWidth MostEntryLength (flat bs) es p))
+      (ap (λ (l : List Entry). every (okLength MostEntryLength) (lengths l)) (sym format-entries)
+      ∙ allEntries-each LengthWidth MostEntryLength (flat bs) format-parses)
 
 abbrev pub format : Codec
 format =
@@ -138,3 +139,21 @@ pub format-blocks : (rs : List Range) → blocks format rs ≡ Form.blocksAll rs
 unfolding blocks blocksAllAt sum
 format-blocks [] = refl
 format-blocks (r ∷ rs) = λ i. length-encodeBlocks r i + format-blocks rs i
+
+-- 4,096 bytes each, and joined again they are the ranges' bytes
+pub codes-sized : (rs : List Range) → SizedBlocks (blocks format rs) (codes format rs)
+unfolding codes blocks lengths
+codes-sized [] = refl
+codes-sized (r ∷ rs) =
+    lengths-append (encodeBlocks r) (codes format rs)
+    ∙ (λ i. format-size r i ++ codes-sized rs i)
+    ∙ replicate-append-replicate (length (encodeBlocks r)) (blocks format rs) BlockSize
+
+pub flat-codes : (rs : List Range) → flat (codes format rs) ≡ encodeAllAt LengthWidth rs
+unfolding codes flat encodeAllAt
+flat-codes [] = refl
+flat-codes (r ∷ rs) = flat-append (encodeBlocks r) (codes format rs) ∙ (λ i. flat-encodeBlocks r i ++ flat-codes rs i)
+
+pub each-good : (rs : List Range) → Each (Form.Good MostEntryLength) rs → Each (Good format) rs
+each-good [] h = tt
+each-good (r ∷ rs) h = (facts-good r (h .0), each-good rs (h .1))

@@ -22,9 +22,7 @@ use Rattle.superblock.specs.declared.MaybeSuperblock.the-variants as slot
 use Rattle.superblock.specs.Superblock.{SelectSuperblock, SelectSuperblockIndex, wfSuperblock}
 use Rattle.journal.specs.Memory.{sliceBytes, askMarks, askReadable}
 use Rattle.range.specs.Form.{Entry, allEntries, allParse}
-use Rattle.reader.specs.declared.answer.Scanned.{Scanned}
 use Rattle.reader.specs.declared.answer.Scanned.the-variants as scan
-use Rattle.reader.specs.Answer.{scanned}
 use Rattle.sector.specs.declared.SectorRead.{SectorRead}
 use Rattle.sector.specs.declared.SectorRead.the-variants as read
 use Rattle.sector.specs.Answer.{readSector}

@@ -9,9 +9,9 @@ use lib.ListN.{length, take, drop, length-drop}
 use lib.Seq.{drop-drop}
 use borrow.Author.Tests.{eqb-true, eq-eqb, le-leb, lt-leb}
 use Rattle.laws.specs.Around.{around-straight}
-use Rattle.laws.specs.Choice.{also, ask, andThen, unless, also-left, also-right, also-both, andThen-left, andThen-right, andThen-both, ask-yes, ask-holds, by-eqb, asked-yes, asked-no, unless-kept, unless-done}
+use Rattle.laws.specs.Choice.{unless, also-left, also-right, also-both, andThen-left, andThen-right, andThen-both, ask-yes, ask-holds, by-eqb, asked-yes, asked-no, unless-kept, unless-done}
 use Rattle.laws.specs.Cut.{flat, lengths}
-use Rattle.laws.specs.Fold.{sum}
+use Rattle.laws.specs.Fold.{sum, every, every-take, every-drop}
 use Rattle.laws.specs.Part.{tail-is, part-of-front}
 use Rattle.laws.specs.Splice.{splice, part-splice}
 use Rattle.layout.specs.declared.Geometry.{Geometry}
@@ -19,11 +19,11 @@ use Rattle.layout.specs.Geometry.{ValidGeometry, geometry-asked, asked-geometry
 use Rattle.interval.specs.Facts.{ValidJournalInterval, facts-interval}
 use Rattle.interval.specs.Interval.{askInterval}
 use Rattle.superblock.specs.declared.Superblock.{Superblock}
-use Rattle.superblock.specs.Superblock.{SelectSuperblock, SelectSuperblockIndex, wfSuperblock}
-use Rattle.superblock.specs.Laws.{WFSuperblock, superblock-facts}
-use Rattle.journal.specs.Memory.{sliceBytes, askSliceBytes, askMarks, askReadable}
-use Rattle.journal.specs.Asked.{Blocks, asked-blocks}
-use Rattle.journal.specs.Cells.{length-bytes}
+use Rattle.superblock.specs.Superblock.{SelectSuperblock, SelectSuperblockIndex}
+use Rattle.superblock.specs.Laws.{WFSuperblock, superblock-facts, facts-superblock}
+use Rattle.journal.specs.Memory.{sliceBytes, askSliceBytes, askReadable}
+use Rattle.journal.specs.Asked.{asked-blocks}
+use Rattle.journal.specs.Cells.{length-bytes, slice-every}
 use Rattle.range.specs.Form.{Entry, allEntries, allParse}
 use Rattle.reader.specs.declared.answer.Scanned.{Scanned}
 use Rattle.reader.specs.declared.answer.Scanned.the-variants as scan
@@ -31,12 +31,13 @@ use Rattle.reader.specs.Answer.{scanned}
 use Rattle.unpacker.specs.Unpack as unpack
 use Rattle.unpacker.specs.Unpack.{askUnpack}
 use Rattle.sector.specs.declared.SectorRead.{SectorRead}
-use Rattle.sector.specs.Sector.{SectorSize}
+use Rattle.sector.specs.declared.SectorRead.the-variants as read
+use Rattle.sector.specs.Sector.{SectorSize, askSector, superblockIn}
 use Rattle.image.specs.declared.Refusal.{Refusal}
 use Rattle.image.specs.declared.Choice.{Choice}
 use Rattle.image.specs.declared.Recorded.{Recorded}
 use Rattle.image.specs.declared.Recorded.the-variants as recorded
-use Rattle.image.specs.Image.{Lent, lent, slotRead, journalOf, intervalOf, intervalBytes, straight, sectorSuperblock, sectorNumber, imageLent, askImage, askLent, refusal, firstNo, askSlots, selected, which, chosen, readable, unmarked, marked, intervalEntries, askParse, askRecord, recordOf, piecesAfter, recordLent}
+use Rattle.image.specs.Image.{Lent, lent, slotRead, journalOf, intervalOf, intervalBytes, straight, sectorSuperblock, sectorNumber, imageLent, askImage, askLent, refusal, firstNo, askSlots, selected, which, chosen, readable, intervalEntries, askParse, askRecord, recordOf, piecesAfter, recordLent}
 
 -- what is found in a superblock's interval, and what is lent then, pieces being as they are left
 abbrev pub foundIn : Geometry → List ℕ → Superblock → Scanned
@@ -136,10 +137,40 @@ slots-asked g first second lent e =
       second-formed = superblock-facts g (sectorSuperblock second) (ask-yes 2 _ (omega arith) (no-left _ _ _ e4));
     }
 
+-- a sector that was not refused holds its superblock
+pub slot-holds : (disk : List ℕ) (at : ℕ) → sectorNumber (slotRead disk at) ≡ 0 → slotRead disk at ≡ read.Holds (sectorSuperblock (slotRead disk at))
+unfolding slotRead sectorNumber sectorSuperblock
+slot-holds disk at =
+    by-eqb (λ (r : SectorRead). sectorNumber r ≡ 0 → r ≡ read.Holds (sectorSuperblock r)) (askSector xs) 0 (read.Holds (superblockIn xs)) (read.Refused (askSector xs))
+    (λ h e. refl) (λ h e. absurd (h e))
+  where
+    xs : List ℕ
+    xs = take SectorSize (drop at disk)
+
+-- two well-formed superblocks are refused nothing
+pub slots-hold : (g : Geometry) (a b : Superblock) → WFSuperblock g a → WFSuperblock g b → askSlots g (read.Holds a) (read.Holds b) 0 ≡ refusal 0 0
+unfolding askSlots sectorNumber sectorSuperblock
+slots-hold g a b f h =
+    no-next _ _ _ refl
+    ∙ no-next _ _ _ refl
+    ∙ no-next _ _ _ refl
+    ∙ no-next _ _ _ (ask-holds 2 _ (facts-superblock g a f))
+    ∙ no-next _ _ _ (ask-holds 2 _ (facts-superblock g b h))
+
 -- the selected one of two well-formed superblocks is well formed
 pub selected-formed : (g : Geometry) (a b : Superblock) → WFSuperblock g a → WFSuperblock g b → WFSuperblock g (SelectSuperblock a b)
 unfolding SelectSuperblock
 selected-formed g a b f h = by-eqb (WFSuperblock g) (SelectSuperblockIndex a b) 1 b a (λ e. h) (λ e. f)
+
+-- an interval's bytes are a slice of the journal's; those of a disk of bytes are bytes
+pub interval-is : (g : Geometry) (disk : List ℕ) (s : Superblock) → intervalBytes g disk s ≡ sliceBytes (journalOf g disk) (intervalOf s)
+unfolding intervalBytes
+interval-is g disk s = refl
+
+pub interval-every : (p : ℕ → Bool) (g : Geometry) (disk : List ℕ) (s : Superblock) → every p disk ≡ true → every p (intervalBytes g disk s) ≡ true
+interval-every p g disk s h =
+    ap (every p) (interval-is g disk s)
+    ∙ slice-every p (journalOf g disk) (intervalOf s) (every-take p (g .blocks * 4096) (drop 8192 disk) (every-drop p 8192 disk h))
 
 -- the interval of a well-formed superblock lies in the journal of an image, and its blocks have room in the lent memory
 module _ (g : Geometry) (s : Superblock) (disk : List ℕ) (l : Lent)
@@ -327,6 +358,25 @@ chosen-is g disk q a b n s t x w ha hb hn hs ht hw hx =
       which = (hw ∙ (λ k. SelectSuperblockIndex ((hs ∙ ap sectorSuperblock ha) k) ((ht ∙ ap sectorSuperblock hb) k))) i;
     }
 
+-- the choice of two well-formed superblocks, after a yes to question 1
+pub chosen-holds : (g : Geometry) (disk : List ℕ) (a b : Superblock) → slotRead disk 0 ≡ read.Holds a → slotRead disk SectorSize ≡ read.Holds b → WFSuperblock g a → WFSuperblock g b
+    → chosen g disk 0 ≡ record { no = refusal 0 0; superblock = SelectSuperblock a b; which = SelectSuperblockIndex a b }
+unfolding sectorSuperblock
+chosen-holds g disk a b ha hb f h =
+    sym
+    (chosen-is g disk 0 (read.Holds a) (read.Holds b) (refusal 0 0) a b (SelectSuperblock a b) (SelectSuperblockIndex a b) (sym ha) (sym hb) (sym (slots-hold g a b f h)) refl refl refl
+    refl)
+
+-- a record that was not refused, by the choice: nothing was refused of the slots, and the selected interval parses
+pub chosen-asked : (g : Geometry) (disk : List ℕ) (q : ℕ) → chosen g disk q .no .number ≡ 0 → SlotsAsked g (slotRead disk 0) (slotRead disk SectorSize) q
+unfolding chosen
+chosen-asked g disk q e = slots-asked g (slotRead disk 0) (slotRead disk SectorSize) q e
+
+pub chosen-record : (g : Geometry) (disk : List ℕ) (q : ℕ) → askRecord g disk (chosen g disk q) .number ≡ 0
+    → SlotsAsked g (slotRead disk 0) (slotRead disk SectorSize) q × (allParse (intervalBytes g disk (selected disk)) ≡ true)
+unfolding chosen
+chosen-record g disk q e = let r = record-asked g disk (chosen g disk q) e in (chosen-asked g disk q (r .0), r .1)
+
 -- question 6 is asked where nothing was refused before
 module _ (marks : List ℕ) (c : Choice) where
   pub readable-refused : (c .no .number ≡ 0 → ⊥) → c ≡ readable marks c
@@ -347,6 +397,15 @@ module _ (marks : List ℕ) (c : Choice) where
   pub readable-yes : readable marks c .no .number ≡ 0 → (c .no .number ≡ 0) × (askReadable (intervalOf (c .superblock)) marks ≡ 0)
   unfolding readable
   readable-yes e = (no-left _ _ _ e, no-right _ _ _ e)
+
+-- so of a record with marks that was not refused: the record without them isn't, and the selected interval's blocks can be read
+pub marked-record : (g : Geometry) (disk : List ℕ) (marks : List ℕ) (q : ℕ) → askRecord g disk (readable marks (chosen g disk q)) .number ≡ 0
+    → (askRecord g disk (chosen g disk q) .number ≡ 0) × (askReadable (intervalOf (selected disk)) marks ≡ 0)
+unfolding readable chosen
+marked-record g disk marks q e =
+    let r = record-asked g disk (readable marks (chosen g disk q)) e in
+    let y = readable-yes marks (chosen g disk q) (r .0) in
+    (asked-record g disk (chosen g disk q) (y .0) (ask-holds 7 _ (r .1)), y .1)
 
 -- what `record` chooses may be fetched, and what `record_marked` chooses
 pub unmarked-may : (g : Geometry) (disk : List ℕ) (l : Lent) (q : ℕ) (c : Choice) → (q ≡ 0 → askLent g disk l ≡ 0) → c ≡ chosen g disk q

@@ -1,8 +1,7 @@
 -- What was written reads back: the two superblocks, and the blocks.
 use Prim.Native.Nat.{ℕ, _+_, _*_}
 use mathlib.Core.Path.{_≡_, refl, sym, _∙_, ap}
-use mathlib.Core.List.{List, [], _++_, append-nil, append-assoc}
-use native.Mathlib.Nat.{zero-add}
+use mathlib.Core.List.{List, _++_, append-nil, append-assoc}
 use native.Mathlib.Omega.{arith}
 use lib.ListN.{length, take, drop, replicate, length-append, length-replicate}
 use lib.Dec.{eqb}

@@ -10,7 +10,7 @@ use lib.Seq.{ext-getD}
 use Rattle.laws.specs.Choice.{split-le, cond-some}
 use Rattle.laws.specs.Sets.{none-some}
 use Rattle.laws.specs.Fold.{sum, sum-replicate}
-use Rattle.laws.specs.Cut.{cut, flat, lengths, length-lengths, length-flat, cut-flat, cut-at}
+use Rattle.laws.specs.Cut.{cut, flat, lengths, length-lengths, length-flat, cut-flat, cut-at, cut-even, flat-even}
 use Rattle.laws.specs.Part.{length-tab, getD-tab, tab-same, length-part, take-replicate}
 use Rattle.laws.specs.Splice.{splice, length-splice, getD-splice-here}
 use Rattle.interval.specs.Journal.{JournalBlock}
@@ -21,9 +21,14 @@ pub length-blocks : (n : ℕ) (bytes : List ℕ) → length (blocksIn n bytes) �
 unfolding blocksIn
 length-blocks n bytes = length-tab n (blockAt bytes)
 
-block-in : (n : ℕ) (bytes : List ℕ) (i : ℕ) → i < n → getD (blocksIn n bytes) i [] ≡ blockAt bytes i
+pub block-in : (n : ℕ) (bytes : List ℕ) (i : ℕ) → i < n → getD (blocksIn n bytes) i [] ≡ blockAt bytes i
 unfolding blocksIn
 block-in n bytes i h = getD-tab n (blockAt bytes) i [] h
+
+-- blocks joined again are their bytes
+pub flat-blocks : (n : ℕ) (bytes : List ℕ) → length bytes ≡ n * 4096 → flat (blocksIn n bytes) ≡ bytes
+unfolding blocksIn
+flat-blocks n bytes h = ap flat (sym (cut-even n 4096 bytes)) ∙ flat-even n 4096 bytes h
 
 -- a readable block has 4,096 bytes
 pub cell-size : (n : ℕ) (bytes marks : List ℕ) → length bytes ≡ n * 4096 → (i : ℕ) (b : JournalBlock) → getD (cellsIn n bytes marks) i none ≡ some b → length b ≡ 4096

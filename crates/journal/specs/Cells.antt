@@ -12,7 +12,7 @@ use Rattle.laws.specs.Choice.{split-bool}
 use Rattle.laws.specs.Fold.{every, every-at, every-same}
 use Rattle.laws.specs.Part.{tab, length-tab, getD-tab, tab-same, getD-map-in, length-part}
 use Rattle.laws.specs.Ring.{wrap, wrap-in, wrap-scaled}
-use Rattle.laws.specs.Around.{length-around, getD-around}
+use Rattle.laws.specs.Around.{length-around, getD-around, around-every}
 use Rattle.layout.specs.declared.Geometry.{Geometry}
 use Rattle.layout.specs.Geometry.{NumJournalBlocks}
 use Rattle.interval.specs.declared.JournalInterval.{JournalInterval}
@@ -65,6 +65,11 @@ same-block xs ys i j h k f =
 
     ly : length (blockAt ys j) ≡ 4096
     ly = length-part ys (j * 4096) 4096 k
+
+-- what every byte meets is met by every byte of an interval
+pub slice-every : (p : ℕ → Bool) (blocks : List ℕ) (v : JournalInterval) → every p blocks ≡ true → every p (sliceBytes blocks v) ≡ true
+unfolding sliceBytes
+slice-every p blocks v h = around-every p blocks (v .start * 4096) (v .len * 4096) h
 
 -- every block is readable exactly where every mark is 1, and then the cells are the blocks
 readable-is : (bytes marks : List ℕ) (i : ℕ) → readable (cellAt bytes marks i) ≡ isOne (getD marks i 0)

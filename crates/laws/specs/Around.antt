@@ -1,7 +1,7 @@
 -- A list as a ring of S elements, S its length: the elements from a place on, going round, and a write that goes round. Every law holds for
 -- every S: facts go by index. Assumes nothing.
 use Prim.Native.Nat.{ℕ, _+_, _-_, _≤_, _<_, min}
-use mathlib.Core.Bool.{Bool, cond}
+use mathlib.Core.Bool.{Bool, true, cond}
 use mathlib.Core.Path.{_≡_, refl, sym, _∙_, ap}
 use mathlib.Core.List.{List, [], _∷_, _++_, append-nil}
 use native.Mathlib.Nat.{zero-add, add-sub-of-le, sub-le, min-eq-left, min-eq-right, le-of-lt}
@@ -10,8 +10,8 @@ use lib.Dec.{ltb}
 use borrow.Author.Tests.{lt-ltb, le-ltb}
 use lib.ListN.{length, take, drop, getD, replicate, length-append, length-take, length-drop, length-replicate, List·getD-append}
 use lib.Seq.{length-take-le, take-all, take-take, take-append-le, take-append-add, take-nil, drop-nil, drop-at, getD-take, getD-drop, getD-append-add, ext-getD}
-use Rattle.laws.specs.Choice.{also, by-ltb, split-le}
-use Rattle.laws.specs.Fold.{every, every-append}
+use Rattle.laws.specs.Choice.{also, also-both, by-ltb, split-le}
+use Rattle.laws.specs.Fold.{every, every-append, every-take, every-drop}
 use Rattle.laws.specs.Part.{min-less, drop-end, take-min, drop-min, take-front, drop-take, length-part, part-replicate}
 use Rattle.laws.specs.Splice.{splice, clipped, clipped-fits, clipped-then, length-clipped, length-splice, getD-splice-before, getD-splice-here, getD-splice-after, splice-none}
 use Rattle.laws.specs.Ring.{wrap, off, by-wrap, by-off, wrap-in, off-in, wrap-add, wrap-off, off-wrap, off-shift}
@@ -394,6 +394,13 @@ module _ {ℓ} {A : Type ℓ} where
 
     pub every-around : (p : A → Bool) (a b : Bool) → a ≡ every p (take k (drop place s)) → b ≡ every p (take m s) → also a b ≡ every p (around s at n)
     every-around p a b ea eb = (λ i. also (ea i) (eb i)) ∙ sym (every-append p (take k (drop place s)) (take m s)) ∙ ap (every p) parts
+
+  -- what every element meets is met by every element of it
+  pub around-every : (p : A → Bool) (s : List A) (at n : ℕ) → every p s ≡ true → every p (around s at n) ≡ true
+  unfolding around
+  around-every p s at n h =
+      every-take p n (drop at s ++ take at s)
+      (every-append p (drop at s) (take at s) ∙ also-both (every p (drop at s)) (every p (take at s)) (every-drop p at s h) (every-take p at s h))
 
   pub around-none : (s : List A) (at : ℕ) → around s at 0 ≡ []
   unfolding around

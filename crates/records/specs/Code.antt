@@ -5,7 +5,7 @@ use mathlib.Core.Path.{_≡_, sym, _∙_, ap, subst}
 use mathlib.Core.List.{List, map}
 use lib.ListN.{length}
 use Rattle.laws.specs.Bytes.{Bytes}
-use Rattle.laws.specs.Choice.{ask-holds, andThen, andThen-left}
+use Rattle.laws.specs.Choice.{andThen, andThen-left}
 use Rattle.layout.specs.declared.Geometry.{Geometry}
 use Rattle.layout.specs.declared.Location.{Location}
 use Rattle.interval.specs.Facts.{ValidJournalInterval}
@@ -14,7 +14,6 @@ use Rattle.superblock.specs.declared.MaybeSuperblock.{MaybeSuperblock}
 use Rattle.journal.specs.Memory.{askMarks, askReadable}
 use Rattle.journal.specs.Asked.{asked-journal, readable-asked}
 use Rattle.journal.specs.Cells.{blockAt, cells, length-cells, full-marks}
-use Rattle.range.specs.Form.{allParse}
 use Rattle.codec.specs.Format.{format}
 use Rattle.source.specs.JournalCache as M
 use Rattle.source.specs.JournalSystem as Y
@@ -29,9 +28,9 @@ use Rattle.history.specs.Whole.Lists.{sim-run}
 use Rattle.history.specs.Whole.Stores.{ran-trace}
 use Rattle.sector.specs.Sector.{SectorSize}
 use Rattle.image.specs.declared.Choice.{Choice}
-use Rattle.image.specs.Image.{Lent, slotRead, superblock1, superblock2, intervalOf, intervalBytes, selected, askLent, chosen, readable, unmarked, marked, askRecord, imageOf}
+use Rattle.image.specs.Image.{Lent, slotRead, superblock1, superblock2, intervalOf, selected, askLent, chosen, unmarked, marked, askRecord, imageOf}
 use Rattle.image.specs.Written.{first-written, second-written, blocks-written}
-use Rattle.image.specs.Laws.{SlotsAsked, slots-asked, selected-formed, record-asked, asked-record, readable-yes}
+use Rattle.image.specs.Laws.{SlotsAsked, selected-formed, chosen-record, marked-record}
 use Rattle.machine.specs.declared.Kind.the-variants as kind
 use Rattle.requests.specs.declared.Slots.{Slots}
 use Rattle.store.specs.Lent as store
@@ -93,7 +92,6 @@ code-load-tells g first loc i s calls answers t e h m loading loaded u load only
 pub code-record-brings : (g : Geometry) (disk : List ℕ) (l : Lent) (m : store.Lent) (slots : Slots) → MachineLent g (machineLent m) → lentDisk.Lent g (m .blocks) (m .marks)
     → Bytes disk → StorePictures g disk (initialState m slots) → askRecord g disk (marked g disk (m .marks) l) .number ≡ 0
     → CodeBrought g disk (marked g disk (m .marks) l) l (initialState m slots)
-unfolding readable chosen
 code-record-brings g disk l m slots ml dl bytes pic held =
     record {
       load = load;
@@ -109,21 +107,17 @@ code-record-brings g disk l m slots ml dl bytes pic held =
     q : ℕ
     q = andThen (askLent g disk l) (askMarks g (m .marks))
 
-    yes : (marked g disk (m .marks) l .no .number ≡ 0) × (allParse (intervalBytes g disk (selected disk)) ≡ true)
-    yes = record-asked g disk (marked g disk (m .marks) l) held
-
-    can-read : (chosen g disk q .no .number ≡ 0) × (askReadable (intervalOf (selected disk)) (m .marks) ≡ 0)
-    can-read = readable-yes (m .marks) (chosen g disk q) (yes .0)
+    yes : (askRecord g disk (chosen g disk q) .number ≡ 0) × (askReadable (intervalOf (selected disk)) (m .marks) ≡ 0)
+    yes = marked-record g disk (m .marks) q held
 
     asked : SlotsAsked g (slotRead disk 0) (slotRead disk SectorSize) q
-    asked = slots-asked g (slotRead disk 0) (slotRead disk SectorSize) q (can-read .0)
+    asked = chosen-record g disk q (yes .0) .0
 
     lent-yes : askLent g disk l ≡ 0
     lent-yes = andThen-left _ _ (asked .lent-asked)
 
     plainly-held : askRecord g disk (unmarked g disk l) .number ≡ 0
-    plainly-held =
-        asked-record g disk (unmarked g disk l) (ap (λ (n : ℕ). chosen g disk n .no .number) (lent-yes ∙ sym (asked .lent-asked)) ∙ can-read .0) (ask-holds 7 _ (yes .1))
+    plainly-held = ap (λ (n : ℕ). askRecord g disk (chosen g disk n) .number) (lent-yes ∙ sym (asked .lent-asked)) ∙ yes .0
 
     valid : ValidJournalInterval g (intervalOf (selected disk))
     valid =
@@ -131,7 +125,7 @@ code-record-brings g disk l m slots ml dl bytes pic held =
         record { start-in = f .start-in; len-in = f .len-in }
 
     full : fullRange (CyclicSlice g (cells g (m .blocks) (m .marks)) (intervalOf (selected disk))) ≡ true
-    full = full-marks g (intervalOf (selected disk)) valid (m .blocks) (dl .blocks-right .size) (m .marks) (dl .marks-right .size) ∙ readable-asked (intervalOf (selected disk)) (m .marks) (can-read .1)
+    full = full-marks g (intervalOf (selected disk)) valid (m .blocks) (dl .blocks-right .size) (m .marks) (dl .marks-right .size) ∙ readable-asked (intervalOf (selected disk)) (m .marks) (yes .1)
 
     rest-pictured : Pictures g disk (resting (stateSeen g s .disk .superblocks) (stateSeen g s .disk .journal))
     rest-pictured = let p = store-pictured g disk s pic in record { first = p .first; second = p .second; blocks = p .blocks }

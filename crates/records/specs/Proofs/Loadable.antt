@@ -1,18 +1,18 @@
 -- The record of an image whose disk can be loaded: the selected superblock, its slot, and the entries that its interval parses to. What a ledger
 -- keeps is such a disk.
 use Prim.Native.Nat.{ℕ, _+_, _*_, _<_}
-use mathlib.Core.Bool.{Bool, true, false, cond}
+use mathlib.Core.Bool.{Bool, true, false}
 use mathlib.Core.Path.{_≡_, refl, sym, _∙_, ap, subst}
-use mathlib.Core.List.{List, [], map}
+use mathlib.Core.List.{List, []}
 use mathlib.Core.Option.{Option, none, some}
 use native.Mathlib.Omega.{arith}
 use lib.Dec.{eqb}
-use lib.ListN.{length, take, drop, getD, length-map, replicate}
+use lib.ListN.{length, getD, length-map}
 use lib.Seq.{ext-getD}
 use Rattle.laws.specs.Choice.{ruin, split-eq, ask-holds}
-use Rattle.laws.specs.Cut.{cut, flat, lengths, flat-even, cut-even}
+use Rattle.laws.specs.Cut.{flat, lengths}
 use Rattle.laws.specs.Fold.{sum}
-use Rattle.laws.specs.Part.{tab, getD-tab, length-part, getD-map-in}
+use Rattle.laws.specs.Part.{length-part, getD-map-in}
 use Rattle.laws.specs.Ring.{wrap, wrap-in}
 use Rattle.laws.specs.Splice.{splice}
 use Rattle.laws.specs.Sets.{Two, at, same-value}
@@ -24,14 +24,13 @@ use Rattle.interval.specs.Journal.{JournalBlock, CyclicSlice}
 use Rattle.interval.specs.Laws.{slice-at, length-slice}
 use Rattle.superblock.specs.declared.Superblock.{Superblock}
 use Rattle.superblock.specs.Superblock.{IncrementSuperblockCounter, SelectSuperblock, SelectSuperblockIndex}
-use Rattle.superblock.specs.Laws.{WFSuperblock, facts-superblock, selects-second, selects-first}
+use Rattle.superblock.specs.Laws.{selects-second, selects-first}
 use Rattle.journal.specs.Memory.{sliceBytes, askReadable}
-use Rattle.journal.specs.Cells.{blockAt, blocksIn, length-bytes, slice-blocks}
-use Rattle.journal.specs.Blocks.{length-blocks}
-use Rattle.range.specs.Form.{LengthWidth, MostEntryLength, allEntries, allParse}
-use Rattle.range.specs.Ranges.{parseAll-parses, parseAll-entries}
+use Rattle.journal.specs.Cells.{blocksIn, length-bytes, slice-blocks}
+use Rattle.journal.specs.Blocks.{length-blocks, block-in, flat-blocks}
+use Rattle.range.specs.Form.{allEntries, allParse}
 use Rattle.codec.specs.Codec.{JournalEntry, JournalRange}
-use Rattle.codec.specs.Format.{format, parseBlocks}
+use Rattle.codec.specs.Format.{format, format-parses, format-entries}
 use Rattle.codec.specs.Ranges.{codes, whole, whole-same, length-codes, parse-codes, blocks}
 use Rattle.source.specs.JournalDisk as D
 use Rattle.source.specs.JournalCache as M
@@ -43,8 +42,8 @@ use Rattle.sector.specs.declared.SectorRead.the-variants as read
 use Rattle.sector.specs.Sector.{SectorSize}
 use Rattle.image.specs.declared.Choice.{Choice}
 use Rattle.image.specs.declared.Recorded.the-variants as recorded
-use Rattle.image.specs.Image.{Lent, slotRead, sectorNumber, sectorSuperblock, superblock1, superblock2, selected, which, journalOf, intervalOf, intervalBytes, intervalEntries, askParse, refusal, askSlots, chosen, readable}
-use Rattle.image.specs.Laws.{no-next, held-yes, bytes-yes, lens-yes, readable-asked}
+use Rattle.image.specs.Image.{Lent, slotRead, selected, which, journalOf, intervalOf, intervalBytes, intervalEntries, askParse, refusal, chosen, readable}
+use Rattle.image.specs.Laws.{held-yes, bytes-yes, lens-yes, readable-asked, interval-is, chosen-holds}
 use Rattle.records.specs.Pictures.{said, Pictures, RecordIs}
 
 -- what a slot says, taken apart
@@ -58,11 +57,6 @@ index-bit t =
     split-eq (t .second .counter) (IncrementSuperblockCounter (t .first .counter))
     (λ e. let s = selects-second (t .first) (t .second) e in s ∙ sym (ap (λ (n : ℕ). bit (eqb n 1)) s))
     (λ f. let s = selects-first (t .first) (t .second) f in s ∙ sym (ap (λ (n : ℕ). bit (eqb n 1)) s))
-
--- blocks joined again are their bytes
-pub flat-blocks : (n : ℕ) (bytes : List ℕ) → length bytes ≡ n * 4096 → flat (blocksIn n bytes) ≡ bytes
-unfolding blocksIn
-flat-blocks n bytes h = ap flat (sym (cut-even n 4096 bytes)) ∙ flat-even n 4096 bytes h
 
 -- a disk that can be loaded: both slots hold well-formed superblocks, s is selected, in slot w, and its interval's blocks can be read and parse to es
 pub record Loadable (g : Geometry) (slots : Two (Option Superblock)) (j : List (Option JournalBlock)) (w : Bool) (s : Superblock) (es : List JournalEntry) : Type 0 where
@@ -116,12 +110,11 @@ module _ (g : Geometry) (disk : List ℕ) (size-is : length disk ≡ 8192 + g .b
   module _ (d : D.Variables) (pic : Pictures g disk d) (size : length (d .journal) ≡ g .blocks) (v : JournalInterval) (f : ValidJournalInterval g v)
       (cs : JournalRange) (n : length cs ≡ v .len) (h : CyclicSlice g (d .journal) v ≡ whole cs) where
     block-is : (i : ℕ) → i < v .len → getD (blocksIn (v .len) (sliceBytes (journalOf g disk) v)) i [] ≡ getD cs i []
-    unfolding blocksIn
     block-is i l =
         let in-ring : wrap (g .blocks) (v .start + i) < g .blocks = wrap-in (g .blocks) (v .start + i) (omega (arith, f .start-in, f .len-in, l)) in
         ap (λ (xs : List JournalBlock). getD xs i []) (sym (slice-blocks g v f (journalOf g disk) journal-size))
         ∙ slice-at g (blocksIn (g .blocks) (journalOf g disk)) (length-blocks (g .blocks) (journalOf g disk)) v f i [] l
-        ∙ getD-tab (g .blocks) (blockAt (journalOf g disk)) (wrap (g .blocks) (v .start + i)) [] in-ring
+        ∙ block-in (g .blocks) (journalOf g disk) (wrap (g .blocks) (v .start + i)) in-ring
         ∙ pic .blocks (wrap (g .blocks) (v .start + i)) (getD cs i [])
         (sym (slice-at g (d .journal) size v f i none l)
         ∙ ap (λ (xs : List (Option JournalBlock)). getD xs i none) h
@@ -146,56 +139,33 @@ module _ (g : Geometry) (disk : List ℕ) (size-is : length disk ≡ 8192 + g .b
     second-read : slotRead disk SectorSize ≡ read.Holds (slots .values .second)
     second-read = said-holds (slotRead disk SectorSize) (slots .values .second) (sym (pic .second) ∙ slots .holds true)
 
-    first-is : superblock1 disk ≡ slots .values .first
-    unfolding sectorSuperblock
-    first-is = ap sectorSuperblock first-read
-
-    second-is : superblock2 disk ≡ slots .values .second
-    unfolding sectorSuperblock
-    second-is = ap sectorSuperblock second-read
-
-    selected-is : selected disk ≡ s
-    selected-is =
-        (λ i. SelectSuperblock (first-is i) (second-is i))
-        ∙ picked-is (slots .values)
-        ∙ ap (at (slots .values)) (slots .picks)
-        ∙ slots .is
-
-    which-is : which disk ≡ bit w
-    which-is = (λ i. SelectSuperblockIndex (first-is i) (second-is i)) ∙ index-bit (slots .values) ∙ ap bit (slots .picks)
-
     -- the interval's blocks are those that the disk holds
     valid : ValidJournalInterval g (intervalOf s)
     valid = let f = slots-wf g (d .superblocks) w s slots in record { start-in = f .start-in; len-in = f .len-in }
 
     bytes-are : intervalBytes g disk s ≡ flat (z .held)
-    unfolding intervalBytes
     bytes-are =
-        image-holds d pic (z .size) (intervalOf s) valid (z .held)
+        interval-is g disk s
+        ∙ image-holds d pic (z .size) (intervalOf s) valid (z .held)
         (sym (length-map (z .held) some) ∙ ap length (sym (z .holds)) ∙ length-slice g (d .journal) (z .size) (intervalOf s) valid) (z .holds)
 
     parse-yes : allParse (intervalBytes g disk s) ≡ true
-    unfolding parseBlocks
-    parse-yes = ap allParse bytes-are ∙ parseAll-parses LengthWidth MostEntryLength (flat (z .held)) es (z .parses)
+    parse-yes = ap allParse bytes-are ∙ format-parses (z .held) es (z .parses)
 
     entries-are : intervalEntries g disk s ≡ es
-    unfolding parseBlocks
-    entries-are = ap allEntries bytes-are ∙ parseAll-entries LengthWidth MostEntryLength (flat (z .held)) es (z .parses)
-
-    -- nothing is refused
-    slots-yes : askSlots g (slotRead disk 0) (slotRead disk SectorSize) 0 ≡ refusal 0 0
-    unfolding askSlots sectorNumber
-    slots-yes =
-        no-next _ _ _ (ap sectorNumber first-read)
-        ∙ no-next _ _ _ (ap sectorNumber second-read)
-        ∙ no-next _ _ _ refl
-        ∙ no-next _ _ _ (ask-holds 2 _ (facts-superblock g (superblock1 disk) (subst (WFSuperblock g) (sym first-is) (slots .wf false))))
-        ∙ no-next _ _ _ (ask-holds 2 _ (facts-superblock g (superblock2 disk) (subst (WFSuperblock g) (sym second-is) (slots .wf true))))
+    entries-are = ap allEntries bytes-are ∙ format-entries (z .held) es (z .parses)
 
     -- the choice, after a yes to question 1
     pub loadable-choice : chosen g disk 0 ≡ record { no = refusal 0 0; superblock = s; which = bit w }
-    unfolding chosen
-    loadable-choice = λ i. record { no = slots-yes i; superblock = selected-is i; which = which-is i }
+    loadable-choice =
+        chosen-holds g disk (slots .values .first) (slots .values .second) first-read second-read (slots .wf false) (slots .wf true)
+        ∙ (λ i. record { no = refusal 0 0; superblock = selected-is i; which = which-is i })
+      where
+        selected-is : SelectSuperblock (slots .values .first) (slots .values .second) ≡ s
+        selected-is = picked-is (slots .values) ∙ ap (at (slots .values)) (slots .picks) ∙ slots .is
+
+        which-is : SelectSuperblockIndex (slots .values .first) (slots .values .second) ≡ bit w
+        which-is = index-bit (slots .values) ∙ ap bit (slots .picks)
 
     -- so too with marks by which the interval's blocks can be read
     pub marked-choice : (marks : List ℕ) → askReadable (intervalOf s) marks ≡ 0 → readable marks (chosen g disk 0) ≡ chosen g disk 0

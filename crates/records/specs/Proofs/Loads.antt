@@ -14,7 +14,6 @@ use Rattle.interval.specs.Interval.{interval}
 use Rattle.interval.specs.Journal.{JournalBlock, CyclicSlice}
 use Rattle.superblock.specs.declared.Superblock.{Superblock}
 use Rattle.superblock.specs.Laws.{WFSuperblock}
-use Rattle.codec.specs.Codec.{JournalRange}
 use Rattle.codec.specs.Format.{format}
 use Rattle.codec.specs.Ranges.{whole, full-whole}
 use Rattle.source.specs.JournalDisk as D
