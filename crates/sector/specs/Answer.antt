@@ -20,3 +20,6 @@ readSector xs = sectorRead (askSector xs) (superblockIn xs)
 -- what an answer tells that was taken apart
 pub read-holds : (q : ℕ) (s v : Superblock) → sectorRead q s ≡ read.Holds v → (q ≡ 0) × (s ≡ v)
 read-holds q s v e = ⊎-elim (λ h. (h .0, cc)) (λ h. ruin (cc)) (asked-either q (read.Holds s) (read.Refused q) (read.Holds v) e)
+
+pub read-refused : (q p : ℕ) (s : Superblock) → sectorRead q s ≡ read.Refused p → p ≡ q
+read-refused q p s e = ⊎-elim (λ h. ruin (cc)) (λ h. cc) (asked-either q (read.Holds s) (read.Refused q) (read.Refused p) e)

@@ -11,17 +11,6 @@ ghost use lib.ListN.{getD};
 ghost use Rattle.sector.specs.Answer.{readSector};
 ghost use Rattle.sector.specs.Sector.{askSector, superblockOf};
 
-// Here and in the reader the length is asked first: what follows then lies at places that the compiler knows.
-pub fn ask_sector(sector: &[u8]) -> u8
-    ensures { λ r. ⌜ r ≡ askSector (now (sector .entry)) ⌝ }
-{
-    if sector.len() != SECTOR_SIZE {
-        return 10;
-    }
-    let mut numbers = [0; NUMBER_COUNT];
-    ask_fields(&CONTENTS, &mut numbers, sector)
-}
-
 fn number_or_zero(numbers: &[u64], i: usize) -> u64
     ensures { λ r. ⌜ r ≡ getD (now (numbers .entry)) i 0 ⌝ }
 {
@@ -50,6 +39,7 @@ pub fn superblock_of(numbers: &[u64]) -> Superblock
     }
 }
 
+// The length is asked first: what follows then lies at places that the compiler knows.
 pub fn read_sector(sector: &[u8]) -> SectorRead
     ensures { λ r. ⌜ r ≡ readSector (now (sector .entry)) ⌝ }
 {
@@ -63,4 +53,15 @@ pub fn read_sector(sector: &[u8]) -> SectorRead
     }
     let s = superblock_of(&numbers);
     SectorRead::Holds(s)
+}
+
+// The questions alone.
+pub fn ask_sector(sector: &[u8]) -> u8
+    ensures { λ r. ⌜ r ≡ askSector (now (sector .entry)) ⌝ }
+{
+    let r = read_sector(sector);
+    match r {
+        SectorRead::Holds(_) => 0,
+        SectorRead::Refused(q) => q,
+    }
 }
