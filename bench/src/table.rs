@@ -4,7 +4,7 @@ use crate::works::{self, Aim, Work};
 use std::sync::OnceLock;
 use std::time::Instant;
 
-const TURNS: usize = 15;
+const TURNS: usize = 101;
 const TURN_NS: f64 = 10_000_000.0;
 
 fn counting() -> bool {
