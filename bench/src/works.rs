@@ -10,7 +10,7 @@ use std::rc::Rc;
 pub enum Aim {
     /// At most 1.0 of plain Rust.
     Par,
-    /// Copies, which no loop over lent slices makes as fast as memcpy.
+    /// The same of copies, whose time memory decides more than the code.
     Copy,
 }
 
