@@ -6,10 +6,10 @@ ghost use Prim.Native.Nat.{_+_, _≤_};
 ghost use lib.ListN.{length, take, drop, replicate};
 ghost use Rattle.laws.specs.Splice.{splice, clipped};
 
-// So many bytes at most are moved at once: the C library's memmove takes as many by vectors on every machine.
+// So many bytes at most are moved at once; larger parts were slower where an interval goes round (docs/DECISIONS.md).
 const PART: usize = 2048;
 
-// A longer run passes the first cache, and the loop alone is as fast.
+// A longer run is copied by the loop alone, which was faster for it.
 const LARGE: usize = 32768;
 
 // The first n bytes of a run, from a place on.
