@@ -3,7 +3,7 @@ use layout::Location;
 use superblock::MaybeId;
 
 // A call with its arguments. Entries are lent beside it, and so is the picture of a crash; a read's answer says whether it is whole.
-#[derive(Drop)]
+#[derive(Clone, Copy)]
 pub enum Step {
     WriteBackJournalReq { id1: u64, id2: MaybeId },
     WriteBackJournalResp { id: u64 },

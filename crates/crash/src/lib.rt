@@ -5,6 +5,8 @@
 //   no_requests      the disk that a crash leaves
 //   crash_memory     what it does to blocks and marks; asks nothing, for a step that has asked
 // Every function is total. A refusal hands the disk back and alters no lent byte.
+#![tactic(auto)]
+
 mod memory;
 mod whole;
 

@@ -16,7 +16,7 @@ use superblock::SuperblockRead;
 
 impl Disk {
     pub fn ack_read_superblock_asked(mut self, which: u64, id: u64, whole: bool) -> SuperblockAcked
-        ensures { result ≡ superblock_answered (ask_ack_read_superblock self.slots self.superblock_reads which id whole) (read_from whole (slot_at self.slots which)) (ack_read_superblock_next self which id) self }
+        ensures { result ≡ superblock_answered (ask_ack_read_superblock self.slots self.superblockReads which id whole) (read_from whole (slot_at self.slots which)) (ack_read_superblock_next self which id) self }
     {
         let slots = self.slots;
         let reads = self.superblockReads;
@@ -53,7 +53,7 @@ impl Disk {
         id: u64,
         read: SuperblockRead,
     ) -> DiskStepped
-        ensures { result ≡ answered (ask_read_superblock_as self.slots self.superblock_reads which id read) (ack_read_superblock_next self which id) self }
+        ensures { result ≡ answered (ask_read_superblock_as self.slots self.superblockReads which id read) (ack_read_superblock_next self which id) self }
     {
         let slots = self.slots;
         let reads = self.superblockReads;
@@ -68,7 +68,7 @@ impl Disk {
 
     // The interval of the read. Whoever calls copies its blocks, where the answer is whole.
     pub fn ack_read_journal_asked(mut self, id: u64, whole: bool, marks: &[u8]) -> JournalAcked
-        ensures { result ≡ journal_answered (ask_ack_read_journal self.journal_reads id whole marks.now) (held_interval self.journal_reads id) (ack_read_journal_next self id) self }
+        ensures { result ≡ journal_answered (ask_ack_read_journal self.journalReads id whole marks.now) (held_interval self.journalReads id) (ack_read_journal_next self id) self }
     {
         let table = self.journalReads;
         let q = ask_ack_read_journal(table, id, whole, marks);
@@ -89,7 +89,7 @@ impl Disk {
 
     // A journal read's answer, but for question 6, which is asked of the marks.
     pub(crate) fn read_journal_answered(mut self, id: u64) -> DiskStepped
-        ensures { result ≡ answered (ask_ack_write_journal self.journal_reads id) (ack_read_journal_next self id) self }
+        ensures { result ≡ answered (ask_ack_write_journal self.journalReads id) (ack_read_journal_next self id) self }
     {
         let table = self.journalReads;
         let q = ask_ack_write_journal(table, id);
@@ -116,7 +116,7 @@ impl Disk {
     }
 
     pub fn ack_write_journal_asked(mut self, id: u64) -> DiskStepped
-        ensures { result ≡ answered (ask_ack_write_journal self.journal_writes id) (ack_write_journal_next self id) self }
+        ensures { result ≡ answered (ask_ack_write_journal self.journalWrites id) (ack_write_journal_next self id) self }
     {
         let table = self.journalWrites;
         let q = ask_ack_write_journal(table, id);

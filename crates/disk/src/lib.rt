@@ -13,6 +13,8 @@
 // Each of these operations asks every question. One named `.._asked` is a part of an operation for a step that has asked questions 1 and 2
 // itself: it asks the others, decides by value and on shared slices, and leaves lent memory to journal's `write_blocks`, `set_marks` and
 // `copy_blocks`; `decide_asked` is such a part for any operation. Every function is total.
+#![tactic(auto)]
+
 mod acknowledge;
 mod answers;
 mod landing;
@@ -28,7 +30,7 @@ use superblock::{JournalRead, MaybeId, SuperblockRead};
 use tables::IntervalTable;
 
 // Two slots, and the requests that wait. Its blocks and marks are lent beside it.
-#[derive(Drop)]
+#[derive(Clone, Copy)]
 pub struct Disk {
     pub slots: Slots,
     pub superblockReads: SuperblockReads,
@@ -38,46 +40,46 @@ pub struct Disk {
 }
 
 // What a call answers: done, or the number of the question that was answered no. The disk beside it is the next one, or the one given.
-#[derive(Drop)]
+#[derive(Clone, Copy)]
 pub enum DiskAnswer {
     Done,
     Refused(u8),
 }
 
-#[derive(Drop)]
+#[derive(Clone, Copy)]
 pub struct DiskStepped {
     pub answer: DiskAnswer,
     pub disk: Disk,
 }
 
 // The answer of a superblock read, with what was read.
-#[derive(Drop)]
+#[derive(Clone, Copy)]
 pub enum SuperblockAnswer {
     Read(SuperblockRead),
     Refused(u8),
 }
 
-#[derive(Drop)]
+#[derive(Clone, Copy)]
 pub struct SuperblockAcked {
     pub answer: SuperblockAnswer,
     pub disk: Disk,
 }
 
 // The answer of a journal read, with the interval that the read was of.
-#[derive(Drop)]
+#[derive(Clone, Copy)]
 pub enum JournalAnswer {
     Read(JournalInterval),
     Refused(u8),
 }
 
-#[derive(Drop)]
+#[derive(Clone, Copy)]
 pub struct JournalAcked {
     pub answer: JournalAnswer,
     pub disk: Disk,
 }
 
 // What an operation touches of lent blocks: a journal write sets some, a journal read's answer copies some, and no other touches any.
-#[derive(Drop)]
+#[derive(Clone, Copy)]
 pub(crate) enum Touched {
     Written {
         id1: u64,

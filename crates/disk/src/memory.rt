@@ -54,9 +54,9 @@ impl Disk {
         blocks: &mut [u8],
         marks: &mut [u8],
     ) -> DiskStepped
-        ensures value { result ≡ answered (ask_new_blocks g self.journal_writes id1 id2 v new.now) (recv_write_journal_next g self id1 id2 v) self }
-        ensures blocks_after { blocks.new ≡ unless (ask_new_blocks g self.journal_writes id1 id2 v new.now) blocks.old (update_bytes blocks.old v new.now) }
-        ensures marks_after { marks.new ≡ unless (ask_new_blocks g self.journal_writes id1 id2 v new.now) marks.old (update_marks marks.old v) }
+        ensures value { result ≡ answered (ask_new_blocks g self.journalWrites id1 id2 v new.now) (recv_write_journal_next g self id1 id2 v) self }
+        ensures blocks_after { blocks.new ≡ unless (ask_new_blocks g self.journalWrites id1 id2 v new.now) blocks.old (update_bytes blocks.old v new.now) }
+        ensures marks_after { marks.new ≡ unless (ask_new_blocks g self.journalWrites id1 id2 v new.now) marks.old (update_marks marks.old v) }
     {
         let table = self.journalWrites;
         let q = ask_new_blocks(g, table, id1, id2, v, new);
@@ -79,8 +79,8 @@ impl Disk {
         marks: &[u8],
         out: &mut [u8],
     ) -> JournalAcked
-        ensures value { result ≡ journal_answered (ask_ack_read_journal self.journal_reads id whole marks.now) (held_interval self.journal_reads id) (ack_read_journal_next self id) self }
-        ensures out_after { out.new ≡ unless (ask_ack_read_journal self.journal_reads id whole marks.now) out.old (read_out whole (held_interval self.journal_reads id) blocks.now out.old) }
+        ensures value { result ≡ journal_answered (ask_ack_read_journal self.journalReads id whole marks.now) (held_interval self.journalReads id) (ack_read_journal_next self id) self }
+        ensures out_after { out.new ≡ unless (ask_ack_read_journal self.journalReads id whole marks.now) out.old (read_out whole (held_interval self.journalReads id) blocks.now out.old) }
     {
         let r = self.ack_read_journal_asked(id, whole, marks);
         let a = r.answer;

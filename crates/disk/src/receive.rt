@@ -16,7 +16,7 @@ use superblock::{MaybeId, Superblock};
 
 impl Disk {
     pub fn recv_read_superblock_asked(mut self, which: u64, id: u64) -> DiskStepped
-        ensures { result ≡ answered (ask_recv_read_superblock self.superblock_reads which id) (recv_read_superblock_next self which id) self }
+        ensures { result ≡ answered (ask_recv_read_superblock self.superblockReads which id) (recv_read_superblock_next self which id) self }
     {
         let reads = self.superblockReads;
         let q = ask_recv_read_superblock(reads, which, id);
@@ -34,7 +34,7 @@ impl Disk {
         id: u64,
         v: JournalInterval,
     ) -> DiskStepped
-        ensures { result ≡ answered (ask_recv_read_journal g self.journal_reads id v) (recv_read_journal_next self id v) self }
+        ensures { result ≡ answered (ask_recv_read_journal g self.journalReads id v) (recv_read_journal_next self id v) self }
     {
         let table = self.journalReads;
         let q = ask_recv_read_journal(g, table, id, v);
@@ -77,7 +77,7 @@ impl Disk {
         id2: MaybeId,
         v: JournalInterval,
     ) -> DiskStepped
-        ensures { result ≡ answered (ask_recv_write_journal g self.journal_writes id1 id2 v) (recv_write_journal_next g self id1 id2 v) self }
+        ensures { result ≡ answered (ask_recv_write_journal g self.journalWrites id1 id2 v) (recv_write_journal_next g self id1 id2 v) self }
     {
         let table = self.journalWrites;
         let q = ask_recv_write_journal(g, table, id1, id2, v);

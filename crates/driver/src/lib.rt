@@ -4,6 +4,8 @@
 //   least_new   the least id under which nothing waits at a disk
 // Slot 1 is seen through, then slot 2, and the superblocks are finished; then the front, the back and the end likewise. Every function is total, and
 // alters nothing.
+#![tactic(auto)]
+
 mod ids;
 mod naming;
 
@@ -11,7 +13,7 @@ use calls::Step;
 pub use ids::least_new;
 pub use naming::next_step;
 
-#[derive(Drop)]
+#[derive(Clone, Copy)]
 pub enum Drive {
     Take(Step),
     Refused(u8),

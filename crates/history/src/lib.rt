@@ -1,1 +1,2 @@
 // No code: the ledger, and what whole histories show of it, stand in specs/.
+#![tactic(auto)]

@@ -6,6 +6,8 @@
 //   write_image     the other way: what two slots hold and the journal's blocks as an image
 // Every function is total. No disk is altered by a record; a refusal leaves replay memory as it was. What lies behind the journal isn't part of
 // an image.
+#![tactic(auto)]
+
 mod choosing;
 mod reading;
 mod recording;
@@ -18,7 +20,7 @@ pub use writing::write_image;
 
 // The record: the selected superblock and its slot (0 the first, 1 the second), how many entries lie in replay memory, and how many bytes
 // they have. Or the number of the question that was answered no, and of which slot, 1 or 2; 0 where it isn't asked of a slot.
-#[derive(Drop)]
+#[derive(Clone, Copy)]
 pub enum Recorded {
     Held {
         superblock: Superblock,
@@ -33,14 +35,14 @@ pub enum Recorded {
 }
 
 // The number of a no, 0 where there is none, and of which slot.
-#[derive(Drop)]
+#[derive(Clone, Copy)]
 pub struct Refusal {
     pub number: u8,
     pub slot: u8,
 }
 
 // What the two sectors come to: the first no, the selected superblock and its slot.
-#[derive(Drop)]
+#[derive(Clone, Copy)]
 pub struct Choice {
     pub no: Refusal,
     pub superblock: Superblock,

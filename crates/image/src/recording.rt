@@ -27,7 +27,7 @@ fn fetch_round(
 ) -> Scanned
     requires { Fetches g s (length disk.now) (length pieces.old) (length rbytes.old) (length rlens.old) }
     ensures value { result ≡ found_in g disk.now s }
-    ensures rlens_value { after pieces rbytes rlens ≡ found_lent g disk.now s (splice pieces.old 0 (interval_bytes g disk.now s)) (before pieces rbytes rlens) }
+    ensures lent_after { after pieces rbytes rlens ≡ found_lent g disk.now s (splice pieces.old 0 (interval_bytes g disk.now s)) (before pieces rbytes rlens) }
 {
     let v = JournalInterval {
         start: s.journalStart,
@@ -52,7 +52,7 @@ fn fetch(
 ) -> Scanned
     requires { Fetches g s (length disk.now) (length pieces.old) (length rbytes.old) (length rlens.old) }
     ensures value { result ≡ found_in g disk.now s }
-    ensures rlens_value { after pieces rbytes rlens ≡ found_lent g disk.now s (pieces_after g disk.now s pieces.old) (before pieces rbytes rlens) }
+    ensures lent_after { after pieces rbytes rlens ≡ found_lent g disk.now s (pieces_after g disk.now s pieces.old) (before pieces rbytes rlens) }
 {
     if s.journalStart + s.journalLen <= g.blocks {
         let at = (Geometry::JOURNAL_START_ADDR + s.journalStart * Geometry::BLOCK_SIZE) as usize;
@@ -98,7 +98,7 @@ fn record_chosen(
 ) -> Recorded
     requires { MayFetch g c (length disk.now) (length pieces.old) (length rbytes.old) (length rlens.old) }
     ensures value { result ≡ record_of g disk.now c }
-    ensures rlens_value { after pieces rbytes rlens ≡ record_lent g disk.now c (before pieces rbytes rlens) }
+    ensures lent_after { after pieces rbytes rlens ≡ record_lent g disk.now c (before pieces rbytes rlens) }
 {
     let no = c.no;
     if no.number != 0 {
@@ -122,7 +122,7 @@ pub fn record(
     rlens: &mut [u16],
 ) -> Recorded
     ensures value { result ≡ record_of g disk.now (unmarked g disk.now (before pieces rbytes rlens)) }
-    ensures rlens_value { after pieces rbytes rlens ≡ record_lent g disk.now (unmarked g disk.now (before pieces rbytes rlens)) (before pieces rbytes rlens) }
+    ensures lent_after { after pieces rbytes rlens ≡ record_lent g disk.now (unmarked g disk.now (before pieces rbytes rlens)) (before pieces rbytes rlens) }
 {
     let q = ask_image(g, disk.len(), pieces.len(), rbytes.len(), rlens.len());
     let c = choose(g, disk, q);
@@ -139,7 +139,7 @@ pub fn record_marked(
     rlens: &mut [u16],
 ) -> Recorded
     ensures value { result ≡ record_of g disk.now (marked g disk.now marks.now (before pieces rbytes rlens)) }
-    ensures rlens_value { after pieces rbytes rlens ≡ record_lent g disk.now (marked g disk.now marks.now (before pieces rbytes rlens)) (before pieces rbytes rlens) }
+    ensures lent_after { after pieces rbytes rlens ≡ record_lent g disk.now (marked g disk.now marks.now (before pieces rbytes rlens)) (before pieces rbytes rlens) }
 {
     let lent = ask_image(g, disk.len(), pieces.len(), rbytes.len(), rlens.len());
     let q = ask_lent_marks(g, lent, marks);

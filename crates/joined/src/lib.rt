@@ -3,6 +3,8 @@
 //               other nor the selected interval?
 //   Awaited     what a machine awaits, in the form in which the disk holds it; it is made and compared here, and laws elsewhere speak of it
 // Every function is total.
+#![tactic(auto)]
+
 mod apart;
 mod awaits;
 mod held;
@@ -14,20 +16,20 @@ use requests::{SuperblockReads, SuperblockWrites};
 use tables::IdTable;
 
 // A journal read under its id, of its interval; or none.
-#[derive(Drop)]
+#[derive(Clone, Copy)]
 pub enum AwaitedRead {
     Reading { id: u64, interval: JournalInterval },
     NoRead,
 }
 
-#[derive(Drop)]
+#[derive(Clone, Copy)]
 pub struct AwaitedReads {
     pub front: AwaitedRead,
     pub back: AwaitedRead,
 }
 
 // All that is awaited: reads and writes of both slots, journal reads, journal writes.
-#[derive(Drop)]
+#[derive(Clone, Copy)]
 pub struct Awaited {
     pub superblockReads: SuperblockReads,
     pub journalReads: AwaitedReads,

@@ -8,6 +8,8 @@
 //   copy_blocks, write_blocks, set_marks       the same copying and writing without a question, for a step that has asked
 // Every function is total. One that asks answers by an enum, the value or the refusal number, and a refusal leaves the lent memory as it
 // was. One that asks nothing is cut where the memory ends.
+#![tactic(auto)]
+
 mod questions;
 mod readable;
 mod size;
@@ -21,7 +23,7 @@ pub use slices::{copy_blocks, cyclic_slice_bytes, cyclic_slice_marks};
 pub use update::{journal_update, set_marks, write_blocks};
 
 // How many blocks were copied or written, or the number of the question that was answered no.
-#[derive(Drop)]
+#[derive(Clone, Copy)]
 pub enum Copied {
     Blocks(u64),
     Refused(u8),

@@ -4,6 +4,8 @@
 //   the journal's locations  of a range, of the front and the back of a circular range; positions on the ring
 // Every function is total. One that needs a geometry or a bounded argument answers by an enum: the value, or the refusal number
 // of question 1 or 4. `Location::valid_table` is the bare test, exact for any geometry.
+#![tactic(auto)]
+
 mod addresses;
 mod journal;
 mod locations;
@@ -15,7 +17,7 @@ pub use journal::{
 };
 
 // The disk's geometry: any two numbers make one; question 1 asks whether they are in range.
-#[derive(Drop)]
+#[derive(Clone, Copy)]
 pub struct Geometry {
     // N, the number of journal blocks, 1 to 4,096.
     pub blocks: u64,
@@ -24,42 +26,42 @@ pub struct Geometry {
 }
 
 // A byte address and a length. Any two 64-bit numbers make one.
-#[derive(Drop)]
+#[derive(Clone, Copy)]
 pub struct Location {
     pub addr: u64,
     pub len: u64,
 }
 
 // The answers: the value asked for, or the number of the question that was answered no. Here a byte address.
-#[derive(Drop)]
+#[derive(Clone, Copy)]
 pub enum Address {
     At(u64),
     Refused(u8),
 }
 
 // A number of a journal block.
-#[derive(Drop)]
+#[derive(Clone, Copy)]
 pub enum Position {
     At(u64),
     Refused(u8),
 }
 
 // A test.
-#[derive(Drop)]
+#[derive(Clone, Copy)]
 pub enum Decision {
     Is(bool),
     Refused(u8),
 }
 
 // A location.
-#[derive(Drop)]
+#[derive(Clone, Copy)]
 pub enum Located {
     At(Location),
     Refused(u8),
 }
 
 // A location, or none where there is nothing to locate.
-#[derive(Drop)]
+#[derive(Clone, Copy)]
 pub enum MaybeLocated {
     At(Location),
     Nowhere,

@@ -11,6 +11,8 @@
 // Each answers 0 or the number of the question that was answered no, and writes its other answers through references; `wokujani_select`, which
 // refuses nothing, answers a slot. Every function is total: whatever is passed, a refusal alters nothing, but that a record says the slot of its
 // refusal, and leaves the blocks that it couldn't parse in `pieces`. A name stands in the whole program's names, so it begins with the store's.
+#![tactic(auto)]
+
 mod listing;
 mod looks;
 mod parts;

@@ -53,7 +53,7 @@ pub extern "C" fn wokujani_record(
     slot: &mut u64,
 ) -> u8
     ensures value { result ≡ number_of (record_by n t disk.now (before pieces rbytes rlens)) }
-    ensures rlens_value { after pieces rbytes rlens ≡ lent_by n t disk.now (before pieces rbytes rlens) }
+    ensures lent_after { after pieces rbytes rlens ≡ lent_by n t disk.now (before pieces rbytes rlens) }
     ensures which_after { which.new ≡ which_after (record_by n t disk.now (before pieces rbytes rlens)) which.old }
     ensures found_after { found.new ≡ found_after (record_by n t disk.now (before pieces rbytes rlens)) found.old }
     ensures size_after { size.new ≡ size_after (record_by n t disk.now (before pieces rbytes rlens)) size.old }
@@ -83,7 +83,7 @@ pub extern "C" fn wokujani_record_marked(
     slot: &mut u64,
 ) -> u8
     ensures value { result ≡ number_of (record_marked n t disk.now marks.now (before pieces rbytes rlens)) }
-    ensures rlens_value { after pieces rbytes rlens ≡ lent_marked n t disk.now marks.now (before pieces rbytes rlens) }
+    ensures lent_after { after pieces rbytes rlens ≡ lent_marked n t disk.now marks.now (before pieces rbytes rlens) }
     ensures which_after { which.new ≡ which_after (record_marked n t disk.now marks.now (before pieces rbytes rlens)) which.old }
     ensures found_after { found.new ≡ found_after (record_marked n t disk.now marks.now (before pieces rbytes rlens)) found.old }
     ensures size_after { size.new ≡ size_after (record_marked n t disk.now marks.now (before pieces rbytes rlens)) size.old }

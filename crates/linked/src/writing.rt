@@ -1,7 +1,7 @@
 // Pending entries as one range.
 ghost use Rattle.std.specs.Prelude.{◌≡◌, ◌*◌};
 ghost use Rattle.laws.specs.Choice.{unless};
-ghost use Rattle.laws.specs.Around.{spliceAround};
+ghost use Rattle.laws.specs.Around.{splice_around};
 ghost use Rattle.range.specs.Form.{block_size, blocks, encode};
 ghost use Rattle.range.specs.Memory.{view};
 ghost use Rattle.writer.specs.Entries.{ask_entries};
@@ -36,7 +36,7 @@ pub extern "C" fn wokujani_write_range(
     taken: &mut u64,
 ) -> u8
     ensures value { result ≡ ask_write bytes.now lens.now n journal.old start }
-    ensures journal_after { journal.new ≡ unless (ask_write bytes.now lens.now n journal.old start) journal.old (spliceAround journal.old (start * block_size) (encode (view bytes.now lens.now n))) }
+    ensures journal_after { journal.new ≡ unless (ask_write bytes.now lens.now n journal.old start) journal.old (splice_around journal.old (start * block_size) (encode (view bytes.now lens.now n))) }
     ensures taken_after { taken.new ≡ unless (ask_write bytes.now lens.now n journal.old start) taken.old (blocks (view bytes.now lens.now n)) }
 {
     let w = write_range(bytes, lens, n, journal, start);

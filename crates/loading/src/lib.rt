@@ -4,6 +4,8 @@
 //   Paged               where in lent memory the piece that a journal answer brings in is to lie
 // A step of the machine is more than what is here: it asks questions 1, 2 and 3 first. Here are question 2's test of each record (`ok`), a
 // step's own questions (`ask_x`, in document 01's order) and its effect on the record (`x_next`). Every function is total.
+#![tactic(auto)]
+
 mod other;
 mod pieces;
 mod slots;
@@ -14,14 +16,14 @@ use superblock::Superblock;
 pub use which::ask_which;
 
 // The two slots while the superblocks are read.
-#[derive(Drop)]
+#[derive(Clone, Copy)]
 pub struct LoadingSuperblock {
     pub first: SlotRead,
     pub second: SlotRead,
 }
 
 // The id that is awaited, how the read ended and what it brought are one enum, so that a slot whose read has ended awaits nothing.
-#[derive(Drop)]
+#[derive(Clone, Copy)]
 pub enum SlotRead {
     Unasked,
     Awaited(u64),
@@ -30,7 +32,7 @@ pub enum SlotRead {
 }
 
 // The selected superblock, and the two pieces of its journal while they are read.
-#[derive(Drop)]
+#[derive(Clone, Copy)]
 pub struct LoadingOther {
     pub superblock: Superblock,
     pub whichSuperblock: u64,
@@ -39,14 +41,14 @@ pub struct LoadingOther {
 }
 
 // Where the blocks of an answer go: from block `place` of lent memory on, `len` of them; none where nobody awaits the answer.
-#[derive(Drop)]
+#[derive(Clone, Copy)]
 pub struct Paged {
     pub place: u64,
     pub len: u64,
 }
 
 // A piece that is in awaits nothing; its blocks lie in lent memory.
-#[derive(Drop)]
+#[derive(Clone, Copy)]
 pub enum Piece {
     Unread,
     Reading(u64),

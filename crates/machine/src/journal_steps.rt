@@ -24,7 +24,7 @@ pub(crate) fn sent_sync(moves: bool, t: SyncTable) -> SyncTable
 }
 
 // Where a range goes, its blocks, and the blocks that are written then.
-#[derive(Drop)]
+#[derive(Clone, Copy)]
 pub(crate) struct SentRange {
     pub start: u64,
     pub blocks: u64,

@@ -13,6 +13,8 @@
 // Each of these steps asks every question. One named `.._asked` is a part of a step for a caller that has asked questions 1 and 2 itself: it
 // asks the others and decides by value and on shared slices. Lent memory is then altered by functions that ask nothing; an add and the end of
 // loading, after which nothing is asked of a disk, alter it themselves, after their last yes. Every function is total.
+#![tactic(auto)]
+
 mod commit_steps;
 mod entry_steps;
 mod freeze_steps;
@@ -31,7 +33,7 @@ pub use sending::send_range;
 use superblock::DiskOp;
 use tables::SyncTable;
 
-#[derive(Drop)]
+#[derive(Clone, Copy)]
 pub enum Kind {
     LoadingSuperblock,
     LoadingOther,
@@ -39,7 +41,7 @@ pub enum Kind {
 }
 
 // What a kind lacks is no part of the state: the record beside it that is another kind's is not looked at.
-#[derive(Drop)]
+#[derive(Clone, Copy)]
 pub struct Machine {
     pub kind: Kind,
     pub superblocks: LoadingSuperblock,
@@ -49,20 +51,20 @@ pub struct Machine {
 }
 
 // The next machine's disk operation, or the number of the question that was answered no. The machine beside it is the next one, or the one given.
-#[derive(Drop)]
+#[derive(Clone, Copy)]
 pub enum MachineAnswer {
     Next(DiskOp),
     Refused(u8),
 }
 
-#[derive(Drop)]
+#[derive(Clone, Copy)]
 pub struct MachineStepped {
     pub answer: MachineAnswer,
     pub machine: Machine,
 }
 
 // What was found in pending memory, where nothing is refused: the bytes of its entries.
-#[derive(Drop)]
+#[derive(Clone, Copy)]
 pub enum Asked {
     Held(Bodies),
     Refused(u8),

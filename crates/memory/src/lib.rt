@@ -10,6 +10,8 @@
 //   is_next, next_of_replay         are the given entries the next ones? Replay memory stays as it is, and what is taken of it is counted
 // Every function is total. `append_entries` and `move_front` ask nothing: a step that has asked calls them. `append`, `take_front` and
 // `next_of_replay` ask everything first, and on a refusal lent memory is as it was. Each question looks at a length once; 13 looks at them once more.
+#![tactic(auto)]
+
 mod blank;
 mod counts;
 mod given;
@@ -22,28 +24,28 @@ pub use pending::{append, append_entries, count_pending, move_front, take_front}
 pub use replay::{ask_replay_lent, count_left, is_next, next_of_replay};
 
 // A number of entries and of their bytes.
-#[derive(Drop)]
+#[derive(Clone, Copy)]
 pub struct Count {
     pub entries: u64,
     pub bytes: u64,
 }
 
 // A count, or the number of the question that was answered no.
-#[derive(Drop)]
+#[derive(Clone, Copy)]
 pub enum Counted {
     Now(Count),
     Refused(u8),
 }
 
 // What pending memory holds: its frozen entries, which come first, and all of them. Or the number of a refusal.
-#[derive(Drop)]
+#[derive(Clone, Copy)]
 pub enum PendingCount {
     Now { frozen: Count, all: Count },
     Refused(u8),
 }
 
 // How much pending memory holds: its lent slices have exactly these lengths.
-#[derive(Drop)]
+#[derive(Clone, Copy)]
 pub struct Limits {
     pub entries: u64,
     pub bytes: u64,

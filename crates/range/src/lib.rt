@@ -1,5 +1,7 @@
 // The range format (document 01, "Range"), for the crates that read and write it: its numbers here, its definitions and laws in specs/.
 //   blocks_of   the fewest blocks that hold the range of so many entries with so many bytes
+#![tactic(auto)]
+
 mod size;
 
 use layout::Geometry;

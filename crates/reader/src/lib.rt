@@ -8,6 +8,8 @@
 //   entry_refusal  questions 7 and 4 of an entry
 //   list           where each body begins
 // Every function is total: bytes that are no range are a 7.
+#![tactic(auto)]
+
 mod answer;
 mod body;
 mod head;

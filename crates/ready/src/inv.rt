@@ -10,7 +10,7 @@ use super::{Commit, Frozen, Ready};
 use layout::Geometry;
 use superblock::{Superblock, increment_superblock_counter};
 
-// which_superblock, written_journal_len and the superblock's journalLen.
+// whichSuperblock, writtenJournalLen and the superblock's journalLen.
 fn extent_ok(g: Geometry, which: u64, written: u64, len: u64) -> bool
     ensures { result ≡ extent_ok g which written len }
 {

@@ -6,6 +6,8 @@
 //   JournalWrite, NewSuperblock      what a step sends, or the number of the question that was answered no
 // A step of the machine is more than what is here: it asks questions 1, 2 and 3 first, looks at lent memory, and moves sync requests. Bytes
 // and entries lie in lent memory beside the record; what was found there comes as numbers. Every function is total.
+#![tactic(auto)]
+
 mod commit_steps;
 mod counts;
 mod entry_steps;
@@ -24,7 +26,7 @@ use superblock::Superblock;
 use tables::IdTable;
 
 // The record of a machine at work, field by field as source 000 has it.
-#[derive(Drop)]
+#[derive(Clone, Copy)]
 pub struct Ready {
     pub superblock: Superblock,
     pub whichSuperblock: u64,
@@ -36,21 +38,21 @@ pub struct Ready {
 }
 
 // What a freeze has set aside: up to which position, and the table's new location once that is received.
-#[derive(Drop)]
+#[derive(Clone, Copy)]
 pub struct Frozen {
     pub isFrozen: bool,
     pub frozenJournalPosition: u64,
     pub frozenLoc: MaybeLocation,
 }
 
-#[derive(Drop)]
+#[derive(Clone, Copy)]
 pub enum MaybeLocation {
     NoLocation,
     Received(Location),
 }
 
 // A commit in flight: its kind, the id of its superblock write, and the superblock.
-#[derive(Drop)]
+#[derive(Clone, Copy)]
 pub enum Commit {
     CommitNone,
     CommitAdvanceLog { id: u64, new: Superblock },
@@ -58,7 +60,7 @@ pub enum Commit {
 }
 
 // How many entries lie in lent memory: pending ones, of which the first are frozen, and replay entries, of which the first are taken.
-#[derive(Drop)]
+#[derive(Clone, Copy)]
 pub struct Entries {
     pub pending: u64,
     pub frozen: u64,
@@ -67,14 +69,14 @@ pub struct Entries {
 }
 
 // The bytes of entries in pending memory, as they were found there: of the frozen ones, and of all.
-#[derive(Drop)]
+#[derive(Clone, Copy)]
 pub struct Bodies {
     pub frozen: u64,
     pub pending: u64,
 }
 
 // The range that goes to the disk: its first block, its blocks, and the blocks that are written then; or the number of a no.
-#[derive(Drop)]
+#[derive(Clone, Copy)]
 pub enum JournalWrite {
     Range {
         start: u64,
@@ -85,7 +87,7 @@ pub enum JournalWrite {
 }
 
 // The superblock that goes to the disk, or the number of a no.
-#[derive(Drop)]
+#[derive(Clone, Copy)]
 pub enum NewSuperblock {
     Is(Superblock),
     Refused(u8),

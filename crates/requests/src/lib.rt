@@ -4,6 +4,8 @@
 //   ask_ack_.. , read_acked, interval_left        what an answer asks, and the table without it
 //   ask_land, slots_landed                        what a landing asks, and the slots after it
 // Each decides by value, after questions 1 and 2. Every function is total.
+#![tactic(auto)]
+
 mod acknowledge;
 mod by_slot;
 mod landing;
@@ -24,28 +26,28 @@ use superblock::{MaybeSuperblock, Superblock};
 use tables::IdTable;
 
 // What the disk has twice, once for each slot: what the slot holds,
-#[derive(Drop)]
+#[derive(Clone, Copy)]
 pub struct Slots {
     pub first: MaybeSuperblock,
     pub second: MaybeSuperblock,
 }
 
 // the reads of it that wait,
-#[derive(Drop)]
+#[derive(Clone, Copy)]
 pub struct SuperblockReads {
     pub first: IdTable,
     pub second: IdTable,
 }
 
 // A write of a superblock in flight: its id and what it writes.
-#[derive(Drop)]
+#[derive(Clone, Copy)]
 pub enum SuperblockWrite {
     Writing { id: u64, superblock: Superblock },
     NoWrite,
 }
 
 // and the write of it, if one is in flight.
-#[derive(Drop)]
+#[derive(Clone, Copy)]
 pub struct SuperblockWrites {
     pub first: SuperblockWrite,
     pub second: SuperblockWrite,

@@ -9,6 +9,8 @@
 //   zeros                                     is every byte of a run zero?
 // Every function is total: what does not fit is cut, and a part that isn't there is empty. A loop that writes stores one element a turn
 // and does nothing else.
+#![tactic(auto)]
+
 mod around;
 mod blank;
 mod compare;

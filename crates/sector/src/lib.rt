@@ -6,6 +6,8 @@
 //   superblock_of  the superblock that a sector's numbers make
 //   select         which of two sectors a store would load from, and why
 // Every function is total. Any five numbers make a superblock here: whether it is well formed is asked by the loader.
+#![tactic(auto)]
+
 mod check;
 mod fields;
 mod read;
@@ -29,7 +31,7 @@ pub const NUMBER_COUNT: usize = 5;
 pub(crate) const CONTENTS: [u8; 14] = [6, 0, 64, 0, 72, 0, 80, 0, 88, 0, 96, 0, 104, 0];
 
 // What a sector was read as: the superblock, or the number of the question that was answered no.
-#[derive(Drop)]
+#[derive(Clone, Copy)]
 pub enum SectorRead {
     Holds(Superblock),
     Refused(u8),
@@ -37,7 +39,7 @@ pub enum SectorRead {
 
 // Which slot a store would load from: slot 2 where its counter follows slot 1's; else slot 1, for one of three reasons; none where a
 // sector is refused, since no store loads from a single slot.
-#[derive(Drop)]
+#[derive(Clone, Copy)]
 pub enum Selection {
     SecondFollows,
     EqualCounters,

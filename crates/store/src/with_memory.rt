@@ -232,8 +232,8 @@ impl Store {
         marks: &mut [u8],
     ) -> StoreStepped
         ensures value { result ≡ accepted NoDiskOp (crashed self) }
-        ensures blocks_after { blocks.new ≡ crashed_blocks self.disk.journal_writes picture.now blocks.old }
-        ensures marks_after { marks.new ≡ crashed_marks self.disk.journal_writes pictured.now marks.old }
+        ensures blocks_after { blocks.new ≡ crashed_blocks self.disk.journalWrites picture.now blocks.old }
+        ensures marks_after { marks.new ≡ crashed_marks self.disk.journalWrites pictured.now marks.old }
     {
         let d = self.disk;
         let writes = d.journalWrites;

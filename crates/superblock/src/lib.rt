@@ -4,6 +4,8 @@
 //   DiskOp              what the machine asks of the disk and what the disk answers (source 001)
 //   MaybeSuperblock     what a slot holds; SuperblockRead and JournalRead: what a read came back with
 // Every function is total. `same`, `well_formed`, `front` and `back` ask nothing, and hold for any geometry; the others ask questions 1 and 4.
+#![tactic(auto)]
+
 mod superblocks;
 
 use interval::JournalInterval;
@@ -13,7 +15,7 @@ pub use superblocks::{
 };
 
 // What a commit writes, and what loading reads. Any numbers make one; the loader asks whether it is well formed.
-#[derive(Drop)]
+#[derive(Clone, Copy)]
 pub struct Superblock {
     pub counter: u64,
     pub journalStart: u64,
@@ -22,28 +24,28 @@ pub struct Superblock {
 }
 
 // An id, or none.
-#[derive(Drop)]
+#[derive(Clone, Copy)]
 pub enum MaybeId {
     Id(u64),
     NoId,
 }
 
 // What a slot of the disk holds: a superblock, or nothing.
-#[derive(Drop)]
+#[derive(Clone, Copy)]
 pub enum MaybeSuperblock {
     Holds(Superblock),
     Empty,
 }
 
 // What a read of a slot came back with: whole, with the superblock that the slot holds; or damaged, whatever it holds.
-#[derive(Drop)]
+#[derive(Clone, Copy)]
 pub enum SuperblockRead {
     Whole(Superblock),
     Damaged,
 }
 
 // What a read of journal blocks came back with: whole, and the blocks of its interval lie in lent memory; or damaged, and none do.
-#[derive(Drop)]
+#[derive(Clone, Copy)]
 pub enum JournalRead {
     Whole,
     Damaged,
@@ -51,7 +53,7 @@ pub enum JournalRead {
 
 // The operations between machine and disk, as source 001 has them. What travels is numbers and superblocks. The bytes of journal blocks do
 // not travel: they lie in lent memory beside the operation.
-#[derive(Drop)]
+#[derive(Clone, Copy)]
 pub enum DiskOp {
     ReqReadSuperblock {
         id: u64,

@@ -6,6 +6,8 @@
 //   same_ids        do two tables hold the same ids?
 // One size serves several limits: the limit is an argument. Order within a table has no meaning, and the last one takes a removed one's
 // place. Every function is total and asks nothing of its caller: a full table, or a place that isn't in use, leaves the table as it is.
+#![tactic(auto)]
+
 mod id_table;
 mod ids;
 mod interval_table;
@@ -16,14 +18,14 @@ use interval::JournalInterval;
 pub use interval_table::same_ids;
 
 // The first `count` ids are in use.
-#[derive(Drop)]
+#[derive(Clone, Copy)]
 pub struct IdTable {
     pub ids: [u64; 16],
     pub count: usize,
 }
 
 // The first `count` places are in use. A state is 1, 2 or 3.
-#[derive(Drop)]
+#[derive(Clone, Copy)]
 pub struct SyncTable {
     pub ids: [u64; 32],
     pub states: [u8; 32],
@@ -31,7 +33,7 @@ pub struct SyncTable {
 }
 
 // The first `count` places are in use.
-#[derive(Drop)]
+#[derive(Clone, Copy)]
 pub struct IntervalTable {
     pub ids: [u64; 16],
     pub intervals: [JournalInterval; 16],
@@ -39,7 +41,7 @@ pub struct IntervalTable {
 }
 
 // The interval of an id, or nothing where the id isn't there.
-#[derive(Drop)]
+#[derive(Clone, Copy)]
 pub enum Held {
     Is(JournalInterval),
     Nothing,

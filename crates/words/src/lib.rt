@@ -5,6 +5,8 @@
 //   Parsed, decimal      the number that a word says, of 64 bits
 //   hex                  the bytes that a word says in pairs of hexadecimal digits, into lent memory
 // Every function is total: a word that does not lie in its line is no word, says no number and no bytes.
+#![tactic(auto)]
+
 mod bytes;
 mod number;
 mod place;
@@ -16,14 +18,14 @@ pub use place::next;
 pub use words::{is, next_word};
 
 // From one place up to another, of one line.
-#[derive(Drop)]
+#[derive(Clone, Copy)]
 pub struct Word {
     pub from: usize,
     pub to: usize,
 }
 
 // What a word says: a number, or none.
-#[derive(Drop)]
+#[derive(Clone, Copy)]
 pub enum Parsed {
     Is(u64),
     Not,

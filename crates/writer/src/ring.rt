@@ -2,7 +2,7 @@
 ghost use Rattle.std.specs.Prelude.{◌≡◌, ◌+◌, ◌*◌, ◌≤◌};
 ghost use Rattle.laws.specs.Choice.{ask, unless};
 ghost use Rattle.laws.specs.Ring.{wrap};
-ghost use Rattle.laws.specs.Around.{spliceAround};
+ghost use Rattle.laws.specs.Around.{splice_around};
 ghost use Rattle.range.specs.Form.{block_size, length_width, blocks, encode};
 ghost use Rattle.range.specs.Memory.{view, range_from};
 ghost use Rattle.range.specs.Runs.{head};
@@ -74,7 +74,7 @@ fn put(
     at: usize,
 )
     requires { Puts bytes.now lens.now n bodies blocks journal.old at }
-    ensures { journal.new ≡ spliceAround journal.old at (range_from length_width bytes.now lens.now n bodies) }
+    ensures { journal.new ≡ splice_around journal.old at (range_from length_width bytes.now lens.now n bodies) }
 {
     let head = head_bytes(blocks, n);
     let lengths_at = at + HEAD_SIZE;
@@ -131,7 +131,7 @@ pub fn put_range(bytes: &[u8], lens: &[u16], n: u64, bodies: u64, journal: &mut 
 // The range of the first n entries, written from block `start` on.
 pub fn write_range(bytes: &[u8], lens: &[u16], n: u64, journal: &mut [u8], start: u64) -> Written
     ensures value { result ≡ written (ask_write bytes.now lens.now n journal.old start) (blocks (view bytes.now lens.now n)) }
-    ensures journal_after { journal.new ≡ unless (ask_write bytes.now lens.now n journal.old start) journal.old (spliceAround journal.old (start * block_size) (encode (view bytes.now lens.now n))) }
+    ensures journal_after { journal.new ≡ unless (ask_write bytes.now lens.now n journal.old start) journal.old (splice_around journal.old (start * block_size) (encode (view bytes.now lens.now n))) }
 {
     let q = ask_journal(journal.len());
     if q != 0 {

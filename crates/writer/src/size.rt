@@ -12,7 +12,7 @@ use range::blocks_of;
 const MOST_ENTRIES: u64 = range::MOST_ENTRIES as u64;
 
 // The bytes of the bodies and the blocks of a range, or the number of a refusal.
-#[derive(Drop)]
+#[derive(Clone, Copy)]
 pub(crate) enum Sized {
     Range { bodies: u64, blocks: u64 },
     Refused(u8),
