@@ -11,18 +11,24 @@ of a .rt file only clauses, ghost items and backticked words of comments are rea
 import collections
 import os
 import re
+import subprocess
 import sys
 
-LIBRARY = "/opt/rattle"
 IDENT = re.compile(r"(?<![\w'\-₀₁₂₃₄₅₆₇₈₉])[A-Za-z_][\w'\-₀₁₂₃₄₅₆₇₈₉]*")
-DECL = re.compile(r"^(\s*)(?:pub |abbrev pub |abbrev |unfoldable pub |unfoldable )?([A-Za-z_][\w'\-₀-₉]*) : (.*)$")
+DECL = re.compile(r"^(\s*)(?:pub |abbrev pub |abbrev |unfoldable pub |unfoldable )?([A-Za-z_][\w'\-₀-₉]*)(?: \{[^}:]*\})? : (.*)$")
 DATA = re.compile(r"^\s*(?:pub )?(?:record|data) ([A-Za-z_][\w'\-]*)")
 # What would fall together with another name in the same file, or with a parameter, by hand.
 BY_HAND = {
     "named-lent": "named_lent_is", "block-at": "block_at_is", "cell-at": "cell_at_is", "event-sync": "event_sync_is", "step-sync": "step_sync_is",
     "hex-written": "hex_written_is", "superblock-read": "superblock_read_op", "back-in": "back_in_is", "by-kind": "by_kind_is", "piece-at": "piece_at_is",
-    "slot-at": "slot_at_is", "most-blocks": "at_most_blocks",
+    "slot-at": "slot_at_is", "most-blocks": "at_most_blocks", "no-ids": "empty_ids", "FrozenLoc": "system_frozen_loc",
 }
+# Fields of structs of src/ that are spelled as the source has them; a word of specs/ of that spelling keeps it too.
+KEPT = {
+    "frozenJournalPosition", "frozenLoc", "isFrozen", "journalReads", "journalWrites", "superblockReads", "whichSuperblock", "writtenJournalLen",
+}
+# A field of ours that a library has too.
+FIELDS = {"encode-some"}
 # The same of names that the toolchain's own script had turned: the module that declares them, the name, and what it becomes.
 BY_MODULE = {
     ("Rattle.tables.specs.Laws.Counts", "has_room"): "has_room_is", ("Rattle.range.specs.Blank", "some_byte"): "some_byte_is",
@@ -152,15 +158,22 @@ def main(dry):
             where[n].add(p)
             if kinds.get(n) in (None, "word"):
                 kinds[n] = k
+    # the toolchain's folder, which has its guide
+    kit = os.path.dirname(subprocess.run(["rt", "doc"], capture_output=True, text=True, check=True).stdout.split()[0])
     library = set()
-    for p in files(LIBRARY, (".antt",), skip=("out", ".git", "port", "examples")):
+    for p in files(kit, (".antt",), skip=("out", ".git", "port", "examples")):
         with open(p, encoding="utf-8", errors="replace") as f:
             for line in f:
                 m = DECL.match(line) or DATA.match(line)
                 if m:
                     library.add(m.group(m.lastindex if DATA.match(line) else 2))
     table = {n: turned(n, k) for n, k in kinds.items()}
-    table = {n: w for n, w in table.items() if n != w}
+    camels = {w for n, w in table.items() if n != w and "-" not in n}
+    for n, w in table.items():
+        # a law and what it is a law on would fall together
+        if "-" in n and n not in BY_HAND and w in camels:
+            table[n] = w + "_is"
+    table = {n: w for n, w in table.items() if n != w and n not in KEPT}
     steps = set()
     for t in rt.values():
         for m in re.finditer(r"\bfn (\w+)", t):
@@ -169,16 +182,17 @@ def main(dry):
     def map_of(text, path):
         ours, others = imported(text)
         module = "Rattle." + os.path.splitext(path)[0].replace("crates/", "", 1).replace("/", ".")
+        use = plain_map(text, path, ours, others)
         for (home, n), w in BY_MODULE.items():
             if module == home or re.search(re.escape(home) + r"\.\{[^}]*\b" + n + r"\b", text):
-                return {**plain_map(text, path, ours, others), n: w}
-        return plain_map(text, path, ours, others)
+                use[n] = w
+        return use
 
     def plain_map(text, path, ours, others):
         mine = {n for n in table if path in where[n]}
         use = {}
         for n, w in table.items():
-            if n in mine or n in ours or n not in library and n not in others:
+            if n in mine or n in ours or n in FIELDS or n not in library and n not in others:
                 use[n] = w
         return use
 
@@ -215,6 +229,12 @@ def main(dry):
             out[p] = new
         if not of_function(p):
             had = set(IDENT.findall(t))
+            back = collections.defaultdict(set)
+            for n in had:
+                back[use.get(n, n)].add(n)
+            for w, ns in back.items():
+                if len(ns) > 1 and not any("." in n for n in ns):
+                    clashes[" ".join(sorted(ns)), w].add(p)
             for n in had & set(use):
                 if use[n] in had and use[n] != n:
                     clashes[n, use[n]].add(p)

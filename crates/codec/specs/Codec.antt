@@ -7,7 +7,7 @@ use Rattle.laws.specs.Cut.{flat, lengths}
 use Rattle.layout.specs.declared.Geometry.{Geometry}
 use Rattle.layout.specs.Geometry.{num_journal_blocks}
 use Rattle.interval.specs.declared.JournalInterval.{JournalInterval}
-use Rattle.interval.specs.Journal.{JournalBlock, CyclicSlice, full_range}
+use Rattle.interval.specs.Journal.{JournalBlock, cyclic_slice, full_range}
 pub use Rattle.range.specs.Form.{block_size}
 
 -- a run of bytes
@@ -69,10 +69,10 @@ concat_fold (some b ∷ s) = b ∷ concat_fold s
 
 pub record Disk-HasJournalRange (g : Geometry) (journal : List (Option JournalBlock)) (v : JournalInterval) : Type 0 where
   pub size : length journal ≡ num_journal_blocks g
-  pub full : full_range (CyclicSlice g journal v) ≡ true
+  pub full : full_range (cyclic_slice g journal v) ≡ true
 
 abbrev pub disk_journal_range : Geometry → List (Option JournalBlock) → JournalInterval → JournalRange
-disk_journal_range g journal v = concat_fold (CyclicSlice g journal v)
+disk_journal_range g journal v = concat_fold (cyclic_slice g journal v)
 
 pub record Disk-HasJournal (g : Geometry) (C : Codec) (journal : List (Option JournalBlock)) (v : JournalInterval) : Type 0 where
   pub range : Disk-HasJournalRange g journal v

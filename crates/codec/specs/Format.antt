@@ -123,7 +123,7 @@ format =
       parse_empty = format_empty;
       parse_encode = format_encode;
       parse_append = format_append;
-      encode-some = format_some;
+      encode_some = format_some;
       encode_size = format_size;
       parse_few = format_few;
       parse_small = format_small;
@@ -148,7 +148,3 @@ pub flat_codes : (rs : List Range) → flat (codes format rs) ≡ encode_all_at 
 unfolding codes flat encode_all_at
 flat_codes [] = refl
 flat_codes (r ∷ rs) = flat_append (encode_blocks r) (codes format rs) ∙ (λ i. flat_encode_blocks r i ++ flat_codes rs i)
-
-pub each_good : (rs : List Range) → Each (Form.Good most_entry_length) rs → Each (Good format) rs
-each_good [] h = tt
-each_good (r ∷ rs) h = (facts_good r h.0, each_good rs h.1)

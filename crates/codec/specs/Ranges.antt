@@ -7,7 +7,7 @@ use mathlib.Core.List.{List, [], ◌∷◌, ◌++◌, append_assoc, append-nil, 
 use Rattle.std.proofs.Math.Option.{Option, none, some}
 use native.Mathlib.Omega.{arith}
 use Rattle.std.proofs.Math.ListN.{length, length-append}
-use Rattle.laws.specs.Choice.{also, false-true}
+use Rattle.laws.specs.Choice.{also, false_true}
 use Rattle.laws.specs.Fold.{every, Each, every_append}
 use Rattle.laws.specs.Cut.{flat}
 use Rattle.interval.specs.Journal.{JournalBlock, readable, full_range}
@@ -81,7 +81,7 @@ full_append a b = every_append readable a b
 pub full_whole : (s : List (Option JournalBlock)) → full_range s ≡ true → whole (concat_fold s) ≡ s
 unfolding full_range every also concat_fold
 full_whole [] e = refl
-full_whole (none ∷ s) e = false-true e
+full_whole (none ∷ s) e = false_true e
 full_whole (some b ∷ s) e = ap (λ (l : List (Option JournalBlock)). some b ∷ l) (full_whole s e)
 
 pub whole_full : (bs : JournalRange) → full_range (whole bs) ≡ true

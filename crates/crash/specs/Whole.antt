@@ -25,8 +25,8 @@ crash g d picture pictured blocks marks = answered (ask_crash g d picture pictur
 
 abbrev pub crash_blocks : Geometry → Disk → List ℕ → List ℕ → List ℕ → List ℕ → List ℕ
 crash_blocks g d picture pictured blocks marks =
-    unless (ask_crash g d picture pictured blocks marks) blocks (crashed_blocks d.journal_writes picture blocks)
+    unless (ask_crash g d picture pictured blocks marks) blocks (crashed_blocks d.journalWrites picture blocks)
 
 abbrev pub crash_marks : Geometry → Disk → List ℕ → List ℕ → List ℕ → List ℕ → List ℕ
 crash_marks g d picture pictured blocks marks =
-    unless (ask_crash g d picture pictured blocks marks) marks (crashed_marks d.journal_writes pictured marks)
+    unless (ask_crash g d picture pictured blocks marks) marks (crashed_marks d.journalWrites pictured marks)

@@ -16,27 +16,27 @@ abbrev pub idle_disk : Slots → Disk
 idle_disk slots =
     record {
       slots = slots;
-      superblock_reads = record { first = no_ids; second = no_ids };
+      superblockReads = record { first = no_ids; second = no_ids };
       superblockWrites = record { first = write.NoWrite; second = write.NoWrite };
-      journal_reads = no_intervals;
-      journal_writes = no_intervals;
+      journalReads = no_intervals;
+      journalWrites = no_intervals;
     }
 
 -- d.(slots := x), and so for each part
 abbrev pub with_slots : Disk → Slots → Disk
-with_slots d x = record { slots = x; superblock_reads = d.superblock_reads; superblockWrites = d.superblockWrites; journal_reads = d.journal_reads; journal_writes = d.journal_writes }
+with_slots d x = record { slots = x; superblockReads = d.superblockReads; superblockWrites = d.superblockWrites; journalReads = d.journalReads; journalWrites = d.journalWrites }
 
 abbrev pub with_superblock_reads : Disk → SuperblockReads → Disk
-with_superblock_reads d x = record { slots = d.slots; superblock_reads = x; superblockWrites = d.superblockWrites; journal_reads = d.journal_reads; journal_writes = d.journal_writes }
+with_superblock_reads d x = record { slots = d.slots; superblockReads = x; superblockWrites = d.superblockWrites; journalReads = d.journalReads; journalWrites = d.journalWrites }
 
 abbrev pub with_superblock_writes : Disk → SuperblockWrites → Disk
-with_superblock_writes d x = record { slots = d.slots; superblock_reads = d.superblock_reads; superblockWrites = x; journal_reads = d.journal_reads; journal_writes = d.journal_writes }
+with_superblock_writes d x = record { slots = d.slots; superblockReads = d.superblockReads; superblockWrites = x; journalReads = d.journalReads; journalWrites = d.journalWrites }
 
 abbrev pub with_journal_reads : Disk → IntervalTable → Disk
-with_journal_reads d x = record { slots = d.slots; superblock_reads = d.superblock_reads; superblockWrites = d.superblockWrites; journal_reads = x; journal_writes = d.journal_writes }
+with_journal_reads d x = record { slots = d.slots; superblockReads = d.superblockReads; superblockWrites = d.superblockWrites; journalReads = x; journalWrites = d.journalWrites }
 
 abbrev pub with_journal_writes : Disk → IntervalTable → Disk
-with_journal_writes d x = record { slots = d.slots; superblock_reads = d.superblock_reads; superblockWrites = d.superblockWrites; journal_reads = d.journal_reads; journal_writes = x }
+with_journal_writes d x = record { slots = d.slots; superblockReads = d.superblockReads; superblockWrites = d.superblockWrites; journalReads = d.journalReads; journalWrites = x }
 
 -- one number decides: 0 is done, with the next disk; another is a refusal, with the disk as it was
 abbrev pub refused : Disk → ℕ → DiskStepped

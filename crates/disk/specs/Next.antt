@@ -19,19 +19,19 @@ use Rattle.requests.specs.Acknowledge.{read_acked, interval_left}
 use Rattle.requests.specs.Landing.{slots_landed}
 
 unfoldable pub recv_read_superblock_next : Disk → ℕ → ℕ → Disk
-recv_read_superblock_next d which id = with_superblock_reads d (read_received d.superblock_reads which id)
+recv_read_superblock_next d which id = with_superblock_reads d (read_received d.superblockReads which id)
 
 unfoldable pub recv_read_journal_next : Disk → ℕ → JournalInterval → Disk
-recv_read_journal_next d id v = with_journal_reads d (added_interval d.journal_reads id v)
+recv_read_journal_next d id v = with_journal_reads d (added_interval d.journalReads id v)
 
 unfoldable pub recv_write_superblock_next : Disk → ℕ → ℕ → Superblock → Disk
 recv_write_superblock_next d which id superblock = with_superblock_writes d (put_write d.superblockWrites which (write.Writing id superblock))
 
 unfoldable pub recv_write_journal_next : Geometry → Disk → ℕ → MaybeId → JournalInterval → Disk
-recv_write_journal_next g d id1 id2 v = with_journal_writes d (write_received g d.journal_writes id1 id2 v)
+recv_write_journal_next g d id1 id2 v = with_journal_writes d (write_received g d.journalWrites id1 id2 v)
 
 unfoldable pub ack_read_superblock_next : Disk → ℕ → ℕ → Disk
-ack_read_superblock_next d which id = with_superblock_reads d (read_acked d.superblock_reads which id)
+ack_read_superblock_next d which id = with_superblock_reads d (read_acked d.superblockReads which id)
 
 abbrev pub superblock_refused : Disk → ℕ → SuperblockAcked
 superblock_refused d q = record { answer = superblockAnswer.Refused q; disk = d }
@@ -40,7 +40,7 @@ unfoldable pub superblock_answered : ℕ → SuperblockRead → Disk → Disk �
 superblock_answered q x next d = cond (eqb q 0) (record { answer = superblockAnswer.Read x; disk = next }) (superblock_refused d q)
 
 unfoldable pub ack_read_journal_next : Disk → ℕ → Disk
-ack_read_journal_next d id = with_journal_reads d (interval_left d.journal_reads id)
+ack_read_journal_next d id = with_journal_reads d (interval_left d.journalReads id)
 
 abbrev pub journal_refused : Disk → ℕ → JournalAcked
 journal_refused d q = record { answer = journalAnswer.Refused q; disk = d }
@@ -52,7 +52,7 @@ unfoldable pub ack_write_superblock_next : Disk → ℕ → Disk
 ack_write_superblock_next d which = with_superblock_writes d (put_write d.superblockWrites which write.NoWrite)
 
 unfoldable pub ack_write_journal_next : Disk → ℕ → Disk
-ack_write_journal_next d id = with_journal_writes d (interval_left d.journal_writes id)
+ack_write_journal_next d id = with_journal_writes d (interval_left d.journalWrites id)
 
 unfoldable pub land_next : Disk → ℕ → Disk
 land_next d which = with_slots d (slots_landed d.slots d.superblockWrites which)

@@ -47,26 +47,26 @@ abbrev pub as_stepped : JournalAcked → DiskStepped
 as_stepped r = record { answer = done_or r.answer; disk = r.disk }
 
 abbrev pub ask_operation : Geometry → Disk → DiskOp → List ℕ → List ℕ → ℕ
-ask_operation g d (op.ReqReadSuperblock id which) new marks = ask_recv_read_superblock d.superblock_reads which id
-ask_operation g d (op.ReqReadJournal id v) new marks = ask_recv_read_journal g d.journal_reads id v
+ask_operation g d (op.ReqReadSuperblock id which) new marks = ask_recv_read_superblock d.superblockReads which id
+ask_operation g d (op.ReqReadJournal id v) new marks = ask_recv_read_journal g d.journalReads id v
 ask_operation g d (op.ReqWriteSuperblock id which superblock) new marks = ask_recv_write_superblock d.superblockWrites which id
-ask_operation g d (op.ReqWriteJournal id1 id2 start count) new marks = ask_new_blocks g d.journal_writes id1 id2 (interval start count) new
-ask_operation g d (op.RespReadSuperblock id which superblock) new marks = ask_read_superblock_as d.slots d.superblock_reads which id superblock
-ask_operation g d (op.RespReadJournal id journal) new marks = ask_ack_read_journal d.journal_reads id (is_whole journal) marks
+ask_operation g d (op.ReqWriteJournal id1 id2 start count) new marks = ask_new_blocks g d.journalWrites id1 id2 (interval start count) new
+ask_operation g d (op.RespReadSuperblock id which superblock) new marks = ask_read_superblock_as d.slots d.superblockReads which id superblock
+ask_operation g d (op.RespReadJournal id journal) new marks = ask_ack_read_journal d.journalReads id (is_whole journal) marks
 ask_operation g d (op.RespWriteSuperblock id which) new marks = ask_ack_write_superblock d.slots d.superblockWrites which id
-ask_operation g d (op.RespWriteJournal id) new marks = ask_ack_write_journal d.journal_writes id
+ask_operation g d (op.RespWriteJournal id) new marks = ask_ack_write_journal d.journalWrites id
 ask_operation g d op.NoDiskOp new marks = 0
 
 -- what can be asked without lent memory: not how many bytes of a write are lent, nor whether the blocks of a whole read are readable
 abbrev pub ask_decision : Geometry → Disk → DiskOp → ℕ
-ask_decision g d (op.ReqReadSuperblock id which) = ask_recv_read_superblock d.superblock_reads which id
-ask_decision g d (op.ReqReadJournal id v) = ask_recv_read_journal g d.journal_reads id v
+ask_decision g d (op.ReqReadSuperblock id which) = ask_recv_read_superblock d.superblockReads which id
+ask_decision g d (op.ReqReadJournal id v) = ask_recv_read_journal g d.journalReads id v
 ask_decision g d (op.ReqWriteSuperblock id which superblock) = ask_recv_write_superblock d.superblockWrites which id
-ask_decision g d (op.ReqWriteJournal id1 id2 start count) = ask_recv_write_journal g d.journal_writes id1 id2 (interval start count)
-ask_decision g d (op.RespReadSuperblock id which superblock) = ask_read_superblock_as d.slots d.superblock_reads which id superblock
-ask_decision g d (op.RespReadJournal id journal) = ask_ack_write_journal d.journal_reads id
+ask_decision g d (op.ReqWriteJournal id1 id2 start count) = ask_recv_write_journal g d.journalWrites id1 id2 (interval start count)
+ask_decision g d (op.RespReadSuperblock id which superblock) = ask_read_superblock_as d.slots d.superblockReads which id superblock
+ask_decision g d (op.RespReadJournal id journal) = ask_ack_write_journal d.journalReads id
 ask_decision g d (op.RespWriteSuperblock id which) = ask_ack_write_superblock d.slots d.superblockWrites which id
-ask_decision g d (op.RespWriteJournal id) = ask_ack_write_journal d.journal_writes id
+ask_decision g d (op.RespWriteJournal id) = ask_ack_write_journal d.journalWrites id
 ask_decision g d op.NoDiskOp = 0
 
 abbrev pub operation_next : Geometry → Disk → DiskOp → Disk
@@ -104,7 +104,7 @@ operation_marks (op.RespWriteJournal id) marks = marks
 operation_marks op.NoDiskOp marks = marks
 
 abbrev pub operation_out : Disk → DiskOp → List ℕ → List ℕ → List ℕ
-operation_out d (op.RespReadJournal id journal) blocks out = read_out (is_whole journal) (held_interval d.journal_reads id) blocks out
+operation_out d (op.RespReadJournal id journal) blocks out = read_out (is_whole journal) (held_interval d.journalReads id) blocks out
 operation_out d (op.ReqReadSuperblock id which) blocks out = out
 operation_out d (op.ReqReadJournal id v) blocks out = out
 operation_out d (op.ReqWriteSuperblock id which superblock) blocks out = out

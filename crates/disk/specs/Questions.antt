@@ -23,9 +23,9 @@ intervals_ok g most t =
 
 unfoldable pub disk_ok : Geometry → Disk → Bool
 disk_ok g d =
-    also (reads_ok d.superblock_reads)
-    (also (intervals_ok g most_journal_reads d.journal_reads)
-    (intervals_ok g most_journal_writes d.journal_writes))
+    also (reads_ok d.superblockReads)
+    (also (intervals_ok g most_journal_reads d.journalReads)
+    (intervals_ok g most_journal_writes d.journalWrites))
 
 -- question 2
 unfoldable pub ask_state : Geometry → Disk → ℕ

@@ -27,14 +27,14 @@ use Rattle.disk.specs.Operation.{ask_operation, operation_next, operation_blocks
 abbrev pub recv_read_superblock : Geometry → Disk → ℕ → ℕ → List ℕ → List ℕ → DiskStepped
 recv_read_superblock g d which id blocks marks =
     answered
-    (and_then (ask_disk g d blocks marks) (ask_recv_read_superblock d.superblock_reads which id))
+    (and_then (ask_disk g d blocks marks) (ask_recv_read_superblock d.superblockReads which id))
     (recv_read_superblock_next d which id)
     d
 
 abbrev pub recv_read_journal : Geometry → Disk → ℕ → JournalInterval → List ℕ → List ℕ → DiskStepped
 recv_read_journal g d id v blocks marks =
     answered
-    (and_then (ask_disk g d blocks marks) (ask_recv_read_journal g d.journal_reads id v))
+    (and_then (ask_disk g d blocks marks) (ask_recv_read_journal g d.journalReads id v))
     (recv_read_journal_next d id v)
     d
 
@@ -48,7 +48,7 @@ recv_write_superblock g d which id superblock blocks marks =
 -- a journal write: the answer, the blocks and the marks, by one number
 abbrev pub ask_write_journal : Geometry → Disk → ℕ → MaybeId → ℕ → List ℕ → List ℕ → List ℕ → ℕ
 ask_write_journal g d id1 id2 start new blocks marks =
-    and_then (ask_disk g d blocks marks) (ask_new_blocks g d.journal_writes id1 id2 (new_interval start new) new)
+    and_then (ask_disk g d blocks marks) (ask_new_blocks g d.journalWrites id1 id2 (new_interval start new) new)
 
 abbrev pub recv_write_journal : Geometry → Disk → ℕ → MaybeId → ℕ → List ℕ → List ℕ → List ℕ → DiskStepped
 recv_write_journal g d id1 id2 start new blocks marks =
@@ -68,7 +68,7 @@ recv_write_journal_marks g d id1 id2 start new blocks marks =
 abbrev pub ack_read_superblock : Geometry → Disk → ℕ → ℕ → Bool → List ℕ → List ℕ → SuperblockAcked
 ack_read_superblock g d which id whole blocks marks =
     superblock_answered
-    (and_then (ask_disk g d blocks marks) (ask_ack_read_superblock d.slots d.superblock_reads which id whole))
+    (and_then (ask_disk g d blocks marks) (ask_ack_read_superblock d.slots d.superblockReads which id whole))
     (read_from whole (slot_at d.slots which))
     (ack_read_superblock_next d which id)
     d
@@ -76,19 +76,19 @@ ack_read_superblock g d which id whole blocks marks =
 -- a journal read's answer: the answer and the buffer, by one number
 abbrev pub ask_read_journal : Geometry → Disk → ℕ → Bool → List ℕ → List ℕ → List ℕ → ℕ
 ask_read_journal g d id whole blocks marks out =
-    and_then (ask_disk_out g d blocks marks out) (ask_ack_read_journal d.journal_reads id whole marks)
+    and_then (ask_disk_out g d blocks marks out) (ask_ack_read_journal d.journalReads id whole marks)
 
 abbrev pub ack_read_journal : Geometry → Disk → ℕ → Bool → List ℕ → List ℕ → List ℕ → JournalAcked
 ack_read_journal g d id whole blocks marks out =
     journal_answered
     (ask_read_journal g d id whole blocks marks out)
-    (held_interval d.journal_reads id)
+    (held_interval d.journalReads id)
     (ack_read_journal_next d id)
     d
 
 abbrev pub ack_read_journal_out : Geometry → Disk → ℕ → Bool → List ℕ → List ℕ → List ℕ → List ℕ
 ack_read_journal_out g d id whole blocks marks out =
-    unless (ask_read_journal g d id whole blocks marks out) out (read_out whole (held_interval d.journal_reads id) blocks out)
+    unless (ask_read_journal g d id whole blocks marks out) out (read_out whole (held_interval d.journalReads id) blocks out)
 
 abbrev pub ack_write_superblock : Geometry → Disk → ℕ → ℕ → List ℕ → List ℕ → DiskStepped
 ack_write_superblock g d which id blocks marks =
@@ -100,7 +100,7 @@ ack_write_superblock g d which id blocks marks =
 abbrev pub ack_write_journal : Geometry → Disk → ℕ → List ℕ → List ℕ → DiskStepped
 ack_write_journal g d id blocks marks =
     answered
-    (and_then (ask_disk g d blocks marks) (ask_ack_write_journal d.journal_writes id))
+    (and_then (ask_disk g d blocks marks) (ask_ack_write_journal d.journalWrites id))
     (ack_write_journal_next d id)
     d
 

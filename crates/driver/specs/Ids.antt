@@ -21,10 +21,10 @@ writes_hold w id = either (writes_id w.first id) (writes_id w.second id)
 -- a superblock read of either slot, a journal read, a journal write or a superblock write waits under it
 unfoldable pub holds : Disk → ℕ → Bool
 holds d id =
-    either (either (either (either (id_set d.superblock_reads.first id)
-    (id_set d.superblock_reads.second id))
-    (ids_of (take d.journal_reads.count d.journal_reads.ids) id))
-    (ids_of (take d.journal_writes.count d.journal_writes.ids) id))
+    either (either (either (either (id_set d.superblockReads.first id)
+    (id_set d.superblockReads.second id))
+    (ids_of (take d.journalReads.count d.journalReads.ids) id))
+    (ids_of (take d.journalWrites.count d.journalWrites.ids) id))
     (writes_hold d.superblockWrites id)
 
 -- a disk's tables have 66 places
@@ -45,7 +45,7 @@ write_few (write.Writing k superblock) = record { listed = k ∷ []; few = omega
 write_few write.NoWrite = none_few 1
 
 -- the arrays' lengths are their type's
-pub least_is_new : (d : Disk) → SizedIds d.superblock_reads.first → SizedIds d.superblock_reads.second → SizedIntervals d.journal_reads → SizedIntervals d.journal_writes
+pub least_is_new : (d : Disk) → SizedIds d.superblockReads.first → SizedIds d.superblockReads.second → SizedIntervals d.journalReads → SizedIntervals d.journalWrites
     → holds d (least_new d) ≡ false
 unfolding holds
 least_is_new d a b c e =
@@ -54,8 +54,8 @@ least_is_new d a b c e =
     (either_few 48 16 _ _
     (either_few 32 16 _ _
     (either_few 16 16 _ _
-    (table_few d.superblock_reads.first.count d.superblock_reads.first.ids a.ids_long)
-    (table_few d.superblock_reads.second.count d.superblock_reads.second.ids b.ids_long))
-    (table_few d.journal_reads.count d.journal_reads.ids c.ids_long))
-    (table_few d.journal_writes.count d.journal_writes.ids e.ids_long))
+    (table_few d.superblockReads.first.count d.superblockReads.first.ids a.ids_long)
+    (table_few d.superblockReads.second.count d.superblockReads.second.ids b.ids_long))
+    (table_few d.journalReads.count d.journalReads.ids c.ids_long))
+    (table_few d.journalWrites.count d.journalWrites.ids e.ids_long))
     (either_few 1 1 _ _ (write_few d.superblockWrites.first) (write_few d.superblockWrites.second)))

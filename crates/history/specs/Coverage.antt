@@ -5,7 +5,7 @@ use Rattle.std.specs.Prelude.{ℕ, Bool, true, false, not, ◌≡◌, List, [], 
 use Rattle.std.proofs.Math.Option.{Option, none, some}
 use Rattle.laws.specs.Cut.{flat}
 use Rattle.laws.specs.Fold.{Each}
-use Rattle.laws.specs.Sets.{no_ids}
+use Rattle.laws.specs.Sets.{empty_ids}
 use Rattle.layout.specs.declared.Geometry.{Geometry}
 use Rattle.codec.specs.Codec.{JournalEntry, Codec}
 use Rattle.source.specs.JournalDisk.{ReqId}
@@ -148,10 +148,10 @@ pub record Covered (g : Geometry) (C : Codec) (p : Page) (xs : List Said) (id : 
 
 -- A save with nothing new entered. A store at work is idle with no entry in memory or frozen, no journal write outstanding and no commit in flight.
 pub record Idle (r : M.ReadyVariables) : Type 0 where
-  pub none_in_memory : r.in_memory_journal ≡ []
-  pub none_frozen : r.in_memory_journal_frozen ≡ []
-  pub none_outstanding : r.outstanding_journal_writes ≡ no_ids
-  pub no_commit : r.superblock_write ≡ none
+  pub none_in_memory_is : r.in_memory_journal ≡ []
+  pub none_frozen_is : r.in_memory_journal_frozen ≡ []
+  pub none_outstanding_is : r.outstanding_journal_writes ≡ empty_ids
+  pub no_commit_is : r.superblock_write ≡ none
 
 -- a log commit under any id, its landing and its answer
 abbrev pub saving : ReqId → Bool → List Call

@@ -39,8 +39,8 @@ abbrev pub next_call : Geometry → M.Variables → ReqId → Option Call
 next_call g (M.Variables.Ready s) new = none
 next_call g (M.Variables.LoadingOther s) new =
     some
-    (or_else (piece_next new false (journal_interval_of_superblock g false s.superblock) (at s.journal_reads false) (at s.journal_pieces false))
-    (or_else (piece_next new true (journal_interval_of_superblock g true s.superblock) (at s.journal_reads true) (at s.journal_pieces true))
+    (or_else (piece_next new false (journal_interval_of_superblock g false s.superblock) (at s.journalReads false) (at s.journal_pieces false))
+    (or_else (piece_next new true (journal_interval_of_superblock g true s.superblock) (at s.journalReads true) (at s.journal_pieces true))
     finish_other))
 next_call g (M.Variables.LoadingSuperblock s) new =
     some
@@ -71,7 +71,7 @@ abbrev pub slots_left : M.LoadingSuperblockVariables → Bool → ℕ
 slots_left s which = slot_left (at s.outstanding_superblock_reads which) (at s.superblocks which)
 
 abbrev pub pieces_left : Geometry → M.LoadingOtherVariables → Bool → ℕ
-pieces_left g s which = piece_left (journal_interval_of_superblock g which s.superblock) (at s.journal_reads which) (at s.journal_pieces which)
+pieces_left g s which = piece_left (journal_interval_of_superblock g which s.superblock) (at s.journalReads which) (at s.journal_pieces which)
 
 -- the pieces of the superblock that two slots select, when none of them is asked for yet
 abbrev pub selected_left : Geometry → Option Superblock → Option Superblock → Bool → ℕ

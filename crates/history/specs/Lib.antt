@@ -3,15 +3,4 @@ pub mod Statement
 pub mod Coverage
 pub mod Before
 pub mod Earlier
-pub mod Demand
-pub mod Sync
 pub mod Driver
-pub mod Calls
-pub mod Journal
-pub mod Simulation
-pub mod Whole
-pub mod Loads
-pub mod Reach
-pub mod Covering
-pub mod Example
-pub mod Drive

@@ -2,7 +2,7 @@
 -- to; lists of calls with their answers; a load; what a loaded machine shows; and last, any store whose calls are seen so.
 use Rattle.std.specs.Prelude.{ℕ, ◌%◌, Bool, true, false, cond, not, ◌≡◌, List, [], ◌∷◌, ◌++◌, map, ◌↔◌, eqb}
 use Rattle.std.proofs.Math.Option.{Option, none, some}
-use Rattle.laws.specs.Sets.{no_ids, no_keys}
+use Rattle.laws.specs.Sets.{empty_ids, no_keys}
 use Rattle.layout.specs.declared.Geometry.{Geometry}
 use Rattle.layout.specs.declared.Location.{Location}
 use Rattle.interval.specs.declared.JournalInterval.{JournalInterval}
@@ -141,17 +141,17 @@ pub record Tells (r q : M.ReadyVariables) (v u : Shown) : Type 0 where
 abbrev pub ready_by : Shown → Bool → M.ReadyVariables
 ready_by v w =
     record {
-      frozen_loc = none;
-      is_frozen = false;
-      frozen_journal_position = 0;
+      frozenLoc = none;
+      isFrozen = false;
+      frozenJournalPosition = 0;
       superblock_write = none;
       in_memory_journal_frozen = [];
       in_memory_journal = [];
-      outstanding_journal_writes = no_ids;
-      written_journal_len = v.blocks;
+      outstanding_journal_writes = empty_ids;
+      writtenJournalLen = v.blocks;
       replay_journal = v.entries;
       superblock = record { counter = v.counter; journalStart = v.start; journalLen = v.blocks; indirectionTableLoc = v.loc };
-      which_superblock = w;
+      whichSuperblock = w;
       commit_status = CommitNone;
       new_superblock = none;
       sync_reqs = no_keys;

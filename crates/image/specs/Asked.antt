@@ -93,9 +93,9 @@ slots_asked g first second lent e =
     }
 
 -- a sector that was not refused holds its superblock
-pub slot_holds : (disk : List ℕ) (at : ℕ) → sector_number (slot_read disk at) ≡ 0 → slot_read disk at ≡ read.Holds (sector_superblock (slot_read disk at))
+pub slot_holds_is : (disk : List ℕ) (at : ℕ) → sector_number (slot_read disk at) ≡ 0 → slot_read disk at ≡ read.Holds (sector_superblock (slot_read disk at))
 unfolding slot_read sector_number sector_superblock
-slot_holds disk at =
+slot_holds_is disk at =
     by_eqb (λ (r : SectorRead). sector_number r ≡ 0 → r ≡ read.Holds (sector_superblock r)) (ask_sector xs) 0 (read.Holds (superblock_in xs)) (read.Refused (ask_sector xs))
     (λ h e. refl) (λ h e. absurd (h e))
   where

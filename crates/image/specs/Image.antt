@@ -2,7 +2,7 @@
 -- from 8,192 on. Its record is the entries of the interval that the selected superblock names: the ranges in it, from the first to the last
 -- byte. Assumes nothing.
 use Rattle.std.specs.Prelude.{ℕ, ◌+◌, ◌*◌, Bool, cond, List, ◌++◌, eqb, leb, length, take, drop, replicate}
-use Rattle.std.specs.Borrow.{Bor}
+use Rattle.std.specs.Borrow.{MutBor}
 use denote.Triple.Both.{Both}
 use Rattle.laws.specs.Choice.{also, ask, and_then, unless}
 use Rattle.laws.specs.Cut.{flat, lengths}
@@ -39,7 +39,7 @@ lent pieces rbytes rlens = record { pieces = pieces; rbytes = rbytes; rlens = rl
 
 -- the same of a function's parameters, at its entry and at its exit
 abbrev Slice : Type 0
-Slice = Both (Bor (List ℕ)) (Bor (List ℕ))
+Slice = Both (MutBor (List ℕ)) (MutBor (List ℕ))
 
 abbrev pub before : Slice → Slice → Slice → Lent
 before pieces rbytes rlens = lent pieces.entry.now rbytes.entry.now rlens.entry.now

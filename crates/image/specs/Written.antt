@@ -6,7 +6,7 @@ use mathlib.Core.List.{List, ◌++◌, append-nil, append_assoc}
 use Rattle.std.proofs.Math.ListN.{length, take, length-append}
 use Rattle.std.proofs.lemmas.List.{length-replicate}
 use Rattle.std.proofs.Math.Seq.{take_at, take_all}
-use Rattle.laws.specs.Choice.{ask, unless, ask_holds, unless-done}
+use Rattle.laws.specs.Choice.{ask, unless, ask_holds, unless_done}
 use Rattle.laws.specs.Part.{drop_end}
 use Rattle.laws.specs.Splice.{clipped, clipped_then, clipped_fits, splice_is}
 use Rattle.layout.specs.declared.Geometry.{Geometry}
@@ -44,7 +44,7 @@ written_runs g first second blocks disk x y z q hx hy hz =
     ∙ splice_is disk 0 (a ++ (b ++ blocks))
     ∙ ap (λ (l : List ℕ). (a ++ (b ++ blocks)) ++ l) (drop_end disk (0 + length (a ++ (b ++ blocks))) (omega (arith, long)))
     ∙ append-nil (a ++ (b ++ blocks))
-    ∙ sym (unless-done _ _ _ q)
+    ∙ sym (unless_done _ _ _ q)
   where
     a : List ℕ
     a = slot_bytes first
@@ -108,7 +108,7 @@ empty_written = zeros_refused
 -- a sector of its length is written whole
 pub held_put : (s : Superblock) (xs : List ℕ) {y : List ℕ} → length xs ≡ sector_size → y ≡ unless (ask 10 (eqb (length xs) sector_size)) xs (encode_superblock s) → y ≡ slot_bytes (slot.Holds s)
 unfolding slot_bytes
-held_put s xs h e = e ∙ unless-done (ask 10 (eqb (length xs) sector_size)) xs (encode_superblock s) (ask_holds 10 (eqb (length xs) sector_size) (eq-eqb (length xs) sector_size h))
+held_put s xs h e = e ∙ unless_done (ask 10 (eqb (length xs) sector_size)) xs (encode_superblock s) (ask_holds 10 (eqb (length xs) sector_size) (eq-eqb (length xs) sector_size h))
 
 pub empty_put : replicate sector_size 0 ≡ slot_bytes slot.Empty
 unfolding slot_bytes

@@ -1,4 +1,4 @@
--- The journal as source 002 sees it: a list of N blocks, each readable or not. Its own definitions, in its order; `CyclicSlice` is over any
+-- The journal as source 002 sees it: a list of N blocks, each readable or not. Its own definitions, in its order; `cyclic_slice` is over any
 -- element. The bodies of `full_range` and `concat_fold` are absent from the text: a full range is one whose blocks are all readable.
 use Rattle.std.specs.Prelude.{ℕ, ◌+◌, ◌-◌, ◌<◌, Bool, true, false, cond, ◌≡◌, List, [], ◌++◌, leb, ltb, length, take, drop, get_or}
 use Rattle.std.proofs.Math.Option.{Option, none, some}
@@ -32,8 +32,8 @@ pub record JournalUpdate (g : Geometry) (journal journal' : List (Option Journal
   pub len_is : v.len ≡ length new
   pub each : (i : ℕ) → i < length journal → get_or journal' i none ≡ cyclic_splice_value g journal v new i
 
-unfoldable pub CyclicSlice {ℓ} : {A : Type ℓ} → Geometry → List A → JournalInterval → List A
-CyclicSlice g s v =
+unfoldable pub cyclic_slice {ℓ} : {A : Type ℓ} → Geometry → List A → JournalInterval → List A
+cyclic_slice g s v =
     cond (leb (v.start + v.len) (num_journal_blocks g))
     (take v.len (drop v.start s))
     (drop v.start s ++ take (v.start + v.len - num_journal_blocks g) s)

@@ -3,6 +3,3 @@ pub mod Interval
 pub mod Overlap
 pub mod Journal
 pub mod Facts
-pub mod Laws
-pub mod Update
-pub mod Meets

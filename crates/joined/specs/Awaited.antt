@@ -74,28 +74,28 @@ commit_writes which c = put_write no_writes which (commit_write c)
 unfoldable pub superblocks_await : LoadingSuperblock → Awaited
 superblocks_await s =
     record {
-      superblock_reads = record { first = slot_ids s.first; second = slot_ids s.second };
-      journal_reads = no_pieces;
+      superblockReads = record { first = slot_ids s.first; second = slot_ids s.second };
+      journalReads = no_pieces;
       superblockWrites = no_writes;
-      journal_writes = no_ids;
+      journalWrites = no_ids;
     }
 
 unfoldable pub other_awaits : Geometry → LoadingOther → Awaited
 other_awaits g s =
     record {
-      superblock_reads = no_reads;
-      journal_reads = pieces_awaited g s;
+      superblockReads = no_reads;
+      journalReads = pieces_awaited g s;
       superblockWrites = no_writes;
-      journal_writes = no_ids;
+      journalWrites = no_ids;
     }
 
 unfoldable pub ready_awaits : Ready → Awaited
 ready_awaits s =
     record {
-      superblock_reads = no_reads;
-      journal_reads = no_pieces;
+      superblockReads = no_reads;
+      journalReads = no_pieces;
       superblockWrites = commit_writes (commit_slot s) s.commit;
-      journal_writes = s.writes;
+      journalWrites = s.writes;
     }
 
 unfoldable pub awaited_by : Geometry → Machine → Awaited

@@ -16,12 +16,12 @@ use Rattle.joined.specs.Apart.{slots_wf, writes_apart, writes_clear}
 unfoldable pub joined_by : Geometry → Awaited → Disk → Bool
 joined_by g a d =
     also (slots_wf g d.slots)
-    (also (same_reads a.superblock_reads d.superblock_reads)
-    (also (same_journal_reads a.journal_reads d.journal_reads)
+    (also (same_reads a.superblockReads d.superblockReads)
+    (also (same_journal_reads a.journalReads d.journalReads)
     (also (same_writes a.superblockWrites d.superblockWrites)
-    (also (same_ids (take a.journal_writes.count a.journal_writes.ids) (take d.journal_writes.count d.journal_writes.ids))
-    (also (writes_apart d.journal_writes)
-    (writes_clear g d.slots d.journal_writes))))))
+    (also (same_ids (take a.journalWrites.count a.journalWrites.ids) (take d.journalWrites.count d.journalWrites.ids))
+    (also (writes_apart d.journalWrites)
+    (writes_clear g d.slots d.journalWrites))))))
 
 unfoldable pub joined_ok : Geometry → Machine → Disk → Bool
 joined_ok g m d = joined_by g (awaited_by g m) d

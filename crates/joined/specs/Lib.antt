@@ -2,4 +2,3 @@ pub mod Awaited
 pub mod Held
 pub mod Apart
 pub mod Joined
-pub mod Laws

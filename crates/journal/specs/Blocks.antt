@@ -4,11 +4,11 @@ use Rattle.std.proofs.Common.{sym, ◌∙◌, ap, append-nil, zero-add, arith, e
 use Rattle.std.proofs.Math.Option.{none, some}
 use Rattle.std.proofs.lemmas.List.{length-replicate, get_or-replicate}
 use Rattle.std.proofs.Math.ListN.{get_or-eq_default}
-use Rattle.laws.specs.Choice.{split-le, cond-some}
-use Rattle.laws.specs.Sets.{none-some}
+use Rattle.laws.specs.Choice.{split_le, cond_some}
+use Rattle.laws.specs.Sets.{none_some}
 use Rattle.laws.specs.Fold.{sum, sum_replicate}
 use Rattle.laws.specs.Cut.{cut, flat, lengths, length_lengths, length_flat, cut_flat, cut_at, cut_even, flat_even}
-use Rattle.laws.specs.Part.{length-tab, getD-tab, tab-same, length_part, take_replicate}
+use Rattle.laws.specs.Part.{length_tab, get_d_tab, tab_same, length_part, take_replicate}
 use Rattle.laws.specs.Splice.{splice, length_splice, get_d_splice_here}
 use Rattle.interval.specs.Journal.{JournalBlock}
 use Rattle.journal.specs.Memory.{is_one}
@@ -16,11 +16,11 @@ use Rattle.journal.specs.Cells.{block_at, blocks_in, cell_at, cells_in, length_c
 
 pub length_blocks : (n : ℕ) (bytes : List ℕ) → length (blocks_in n bytes) ≡ n
 unfolding blocks_in
-length_blocks n bytes = length-tab n (block_at bytes)
+length_blocks n bytes = length_tab n (block_at bytes)
 
 pub block_in : (n : ℕ) (bytes : List ℕ) (i : ℕ) → i < n → get_or (blocks_in n bytes) i [] ≡ block_at bytes i
 unfolding blocks_in
-block_in n bytes i h = getD-tab n (block_at bytes) i [] h
+block_in n bytes i h = get_d_tab n (block_at bytes) i [] h
 
 -- blocks joined again are their bytes
 pub flat_blocks : (n : ℕ) (bytes : List ℕ) → length bytes ≡ n * 4096 → flat (blocks_in n bytes) ≡ bytes
@@ -30,17 +30,17 @@ flat_blocks n bytes h = ap flat (sym (cut_even n 4096 bytes)) ∙ flat_even n 40
 -- a readable block has 4,096 bytes
 pub cell_size : (n : ℕ) (bytes marks : List ℕ) → length bytes ≡ n * 4096 → (i : ℕ) (b : JournalBlock) → get_or (cells_in n bytes marks) i none ≡ some b → length b ≡ 4096
 cell_size n bytes marks h i b e =
-    split-le n i
-    (λ l. none-some (get_or-eq_default (cells_in n bytes marks) none (omega (arith, l, length_cells n bytes marks))) e)
+    split_le n i
+    (λ l. none_some (get_or-eq_default (cells_in n bytes marks) none (omega (arith, l, length_cells n bytes marks))) e)
     (λ l.
     let k : cell_at bytes marks i ≡ some b = sym (cell_at_is n bytes marks i l) ∙ e in
-    ap length (sym (cond-some (is_one (get_or marks i 0)) (block_at bytes i) b k).1) ∙ length_part bytes (i * 4096) 4096 (omega arith))
+    ap length (sym (cond_some (is_one (get_or marks i 0)) (block_at bytes i) b k).1) ∙ length_part bytes (i * 4096) 4096 (omega arith))
 
 -- blocks copied to the front are the blocks there
 pub blocks_front : (n : ℕ) (bytes out : List ℕ) → length bytes ≡ n * 4096 → n * 4096 ≤ length out → blocks_in n (splice out 0 bytes) ≡ blocks_in n bytes
 unfolding blocks_in
 blocks_front n bytes out h l =
-    tab-same n (block_at (splice out 0 bytes)) (block_at bytes)
+    tab_same n (block_at (splice out 0 bytes)) (block_at bytes)
     (λ i k.
     same_block (splice out 0 bytes) bytes i i (omega (arith, long)) (omega arith)
     (λ r m.

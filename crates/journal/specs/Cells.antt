@@ -8,17 +8,17 @@ use Rattle.std.proofs.Math.Option.{Option, none, some}
 use native.Mathlib.Omega.{arith}
 use Rattle.std.proofs.Math.ListN.{get_or}
 use Rattle.std.proofs.lemmas.List.{length-map}
-use Rattle.laws.specs.Choice.{split-bool}
-use Rattle.laws.specs.Fold.{every, every_at, every-same}
-use Rattle.laws.specs.Part.{tab, length-tab, getD-tab, tab-same, getD-map-in, length_part}
+use Rattle.laws.specs.Choice.{split_bool}
+use Rattle.laws.specs.Fold.{every, every_at, every_same}
+use Rattle.laws.specs.Part.{tab, length_tab, get_d_tab, tab_same, get_d_map_in, length_part}
 use Rattle.laws.specs.Ring.{wrap, wrap_in, wrap_scaled}
 use Rattle.laws.specs.Around.{length_around, get_d_around, around_every}
 use Rattle.layout.specs.declared.Geometry.{Geometry}
 use Rattle.layout.specs.Geometry.{num_journal_blocks}
 use Rattle.interval.specs.declared.JournalInterval.{JournalInterval}
 use Rattle.interval.specs.Facts.{ValidJournalInterval}
-use Rattle.interval.specs.Journal.{JournalBlock, CyclicSlice, readable, full_range}
-use Rattle.interval.specs.Laws.{slice_around, slice-tab}
+use Rattle.interval.specs.Journal.{JournalBlock, cyclic_slice, readable, full_range}
+use Rattle.interval.proofs.Laws.{slice_around, slice_tab}
 use Rattle.journal.specs.Memory.{is_one, slice_bytes, slice_marks, full_marks}
 use Rattle.journal.specs.Asked.{Blocks, Marks}
 
@@ -42,11 +42,11 @@ cells g blocks marks = cells_in (num_journal_blocks g) blocks marks
 
 pub length_cells : (n : ℕ) (bytes marks : List ℕ) → length (cells_in n bytes marks) ≡ n
 unfolding cells_in
-length_cells n bytes marks = length-tab n (cell_at bytes marks)
+length_cells n bytes marks = length_tab n (cell_at bytes marks)
 
 pub cell_at_is : (n : ℕ) (bytes marks : List ℕ) (i : ℕ) → i < n → get_or (cells_in n bytes marks) i none ≡ cell_at bytes marks i
 unfolding cells_in
-cell_at_is n bytes marks i h = getD-tab n (cell_at bytes marks) i none h
+cell_at_is n bytes marks i h = get_d_tab n (cell_at bytes marks) i none h
 
 -- two blocks are the same where their bytes are
 pub same_block : (xs ys : List ℕ) (i j : ℕ) → i * 4096 + 4096 ≤ length xs → j * 4096 + 4096 ≤ length ys
@@ -74,27 +74,27 @@ slice_every p blocks v h = around_every p blocks (v.start * 4096) (v.len * 4096)
 -- every block is readable exactly where every mark is 1, and then the cells are the blocks
 readable_is : (bytes marks : List ℕ) (i : ℕ) → readable (cell_at bytes marks i) ≡ is_one (get_or marks i 0)
 readable_is bytes marks i =
-    split-bool (is_one (get_or marks i 0))
+    split_bool (is_one (get_or marks i 0))
     (λ e. (λ j. readable (cond (e j) (some (block_at bytes i)) none)) ∙ sym e)
     (λ e. (λ j. readable (cond (e j) (some (block_at bytes i)) none)) ∙ sym e)
 
 pub full_is : (n : ℕ) (bytes marks : List ℕ) → length marks ≡ n → full_range (cells_in n bytes marks) ≡ every is_one marks
 unfolding full_range
 full_is n bytes marks h =
-    every-same readable is_one (cells_in n bytes marks) marks none 0 (length_cells n bytes marks ∙ sym h)
+    every_same readable is_one (cells_in n bytes marks) marks none 0 (length_cells n bytes marks ∙ sym h)
     (λ i l. ap readable (cell_at_is n bytes marks i (omega (arith, l, length_cells n bytes marks))) ∙ readable_is bytes marks i)
 
 pub full_cells : (n : ℕ) (bytes marks : List ℕ) → length marks ≡ n → every is_one marks ≡ true → cells_in n bytes marks ≡ map some (blocks_in n bytes)
 unfolding cells_in blocks_in
 full_cells n bytes marks h e =
     ext_get_or none (tab n (cell_at bytes marks)) (map some (tab n (block_at bytes)))
-    (length-tab n (cell_at bytes marks) ∙ sym (length-map (tab n (block_at bytes)) some ∙ length-tab n (block_at bytes)))
+    (length_tab n (cell_at bytes marks) ∙ sym (length-map (tab n (block_at bytes)) some ∙ length_tab n (block_at bytes)))
     (λ i l.
-    let k : i < n = omega (arith, l, length-tab n (cell_at bytes marks)) in
+    let k : i < n = omega (arith, l, length_tab n (cell_at bytes marks)) in
     let one : is_one (get_or marks i 0) ≡ true = every_at is_one marks i 0 e (omega arith) in
-    getD-tab n (cell_at bytes marks) i none k
+    get_d_tab n (cell_at bytes marks) i none k
     ∙ (λ j. cond (one j) (some (block_at bytes i)) none)
-    ∙ sym (getD-map-in some (tab n (block_at bytes)) i [] none (omega (arith, length-tab n (block_at bytes))) ∙ ap some (getD-tab n (block_at bytes) i [] k)))
+    ∙ sym (get_d_map_in some (tab n (block_at bytes)) i [] none (omega (arith, length_tab n (block_at bytes))) ∙ ap some (get_d_tab n (block_at bytes) i [] k)))
 
 -- the slices of a valid interval
 module _ (g : Geometry) (v : JournalInterval) (f : ValidJournalInterval g v) where
@@ -110,9 +110,9 @@ module _ (g : Geometry) (v : JournalInterval) (f : ValidJournalInterval g v) whe
     unfolding slice_marks
     length_marks = length_around marks v.start v.len (omega arith) (omega arith)
 
-    pub slice_marks : CyclicSlice g marks v ≡ slice_marks marks v
+    pub slice_marks_is : cyclic_slice g marks v ≡ slice_marks marks v
     unfolding slice_marks
-    slice_marks = slice_around g marks hm v f
+    slice_marks_is = slice_around g marks hm v f
 
   -- of bytes
   module _ (blocks : List ℕ) (hb : length blocks ≡ g.blocks * 4096) where
@@ -133,26 +133,26 @@ module _ (g : Geometry) (v : JournalInterval) (f : ValidJournalInterval g v) whe
         let w : wrap g.blocks (v.start + t) < g.blocks = wrap_in g.blocks (v.start + t) (omega arith) in
         same_block blocks (slice_bytes blocks v) (wrap g.blocks (v.start + t)) t (omega arith) (omega (arith, length_bytes)) (λ r k. sym (byte_at t r h k))
 
-    pub slice_blocks : CyclicSlice g (blocks_in g.blocks blocks) v ≡ blocks_in v.len (slice_bytes blocks v)
+    pub slice_blocks : cyclic_slice g (blocks_in g.blocks blocks) v ≡ blocks_in v.len (slice_bytes blocks v)
     unfolding blocks_in
     slice_blocks =
-        slice-tab g (block_at blocks) v f
-        ∙ tab-same v.len (λ t. block_at blocks (wrap g.blocks (v.start + t))) (block_at (slice_bytes blocks v)) block_at_is
+        slice_tab g (block_at blocks) v f
+        ∙ tab_same v.len (λ t. block_at blocks (wrap g.blocks (v.start + t))) (block_at (slice_bytes blocks v)) block_at_is
 
     -- of both: whatever the marks
     module _ (marks : List ℕ) (hm : length marks ≡ g.blocks) where
-      pub slice_cells : CyclicSlice g (cells g blocks marks) v ≡ cells_in v.len (slice_bytes blocks v) (slice_marks marks v)
+      pub slice_cells : cyclic_slice g (cells g blocks marks) v ≡ cells_in v.len (slice_bytes blocks v) (slice_marks marks v)
       unfolding cells_in
       slice_cells =
-          slice-tab g (cell_at blocks marks) v f
-          ∙ tab-same v.len (λ t. cell_at blocks marks (wrap g.blocks (v.start + t))) (cell_at (slice_bytes blocks v) (slice_marks marks v))
+          slice_tab g (cell_at blocks marks) v f
+          ∙ tab_same v.len (λ t. cell_at blocks marks (wrap g.blocks (v.start + t))) (cell_at (slice_bytes blocks v) (slice_marks marks v))
           (λ t h j. cond (is_one (sym (mark_at marks hm t h) j)) (some (block_at_is t h j)) none)
 
       -- a full range of lent marks is the source's, and then its slice is the blocks
-      pub full_marks : full_range (CyclicSlice g (cells g blocks marks) v) ≡ full_marks marks v
+      pub full_marks_is : full_range (cyclic_slice g (cells g blocks marks) v) ≡ full_marks marks v
       unfolding full_marks
-      full_marks = ap full_range slice_cells ∙ full_is v.len (slice_bytes blocks v) (slice_marks marks v) (length_marks marks hm)
+      full_marks_is = ap full_range slice_cells ∙ full_is v.len (slice_bytes blocks v) (slice_marks marks v) (length_marks marks hm)
 
-      pub slice_full : full_marks marks v ≡ true → CyclicSlice g (cells g blocks marks) v ≡ map some (blocks_in v.len (slice_bytes blocks v))
+      pub slice_full : full_marks marks v ≡ true → cyclic_slice g (cells g blocks marks) v ≡ map some (blocks_in v.len (slice_bytes blocks v))
       unfolding full_marks
       slice_full e = slice_cells ∙ full_cells v.len (slice_bytes blocks v) (slice_marks marks v) (length_marks marks hm) e

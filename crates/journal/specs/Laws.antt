@@ -3,7 +3,7 @@ use Rattle.std.specs.Prelude.{ℕ, ◌+◌, ◌*◌, ◌≤◌, ◌≡◌, List,
 use Rattle.std.proofs.Common.{sym, ◌∙◌, ap, arith}
 use Rattle.std.proofs.Math.ListN.{length-replicate}
 use Rattle.laws.specs.Splice.{splice, clipped, clipped_fits}
-use Rattle.laws.specs.Around.{around, length_around, around_straight, spliceAround, clipped_around_fits}
+use Rattle.laws.specs.Around.{around, length_around, around_straight, splice_around, clipped_around_fits}
 use Rattle.layout.specs.declared.Geometry.{Geometry}
 use Rattle.interval.specs.declared.JournalInterval.{JournalInterval}
 use Rattle.interval.specs.Facts.{ContiguousJournalInterval}
@@ -12,13 +12,13 @@ use Rattle.journal.specs.Asked.{Blocks, SliceBytes, SliceMarks, Update}
 
 -- what an update writes is all that it was given
 module _ (g : Geometry) (v : JournalInterval) (new blocks marks : List ℕ) (u : Update g v new blocks marks) where
-  pub update_bytes : update_bytes blocks v new ≡ spliceAround blocks (v.start * 4096) new
+  pub update_bytes_is : update_bytes blocks v new ≡ splice_around blocks (v.start * 4096) new
   unfolding update_bytes
-  update_bytes = clipped_around_fits blocks (v.start * 4096) new (omega arith)
+  update_bytes_is = clipped_around_fits blocks (v.start * 4096) new (omega arith)
 
-  pub update_marks : update_marks marks v ≡ spliceAround marks v.start (replicate v.len 1)
+  pub update_marks_is : update_marks marks v ≡ splice_around marks v.start (replicate v.len 1)
   unfolding update_marks
-  update_marks = clipped_around_fits marks v.start (replicate v.len 1) (omega (arith, length-replicate {A = ℕ} v.len 1))
+  update_marks_is = clipped_around_fits marks v.start (replicate v.len 1) (omega (arith, length-replicate {A = ℕ} v.len 1))
 
 -- a slice that is copied to the front has room there
 pub copied_bytes : (g : Geometry) (v : JournalInterval) (blocks out : List ℕ) → SliceBytes g v blocks out → clipped out 0 (slice_bytes blocks v) ≡ splice out 0 (slice_bytes blocks v)

@@ -4,7 +4,7 @@ use Rattle.std.specs.Prelude.{ℕ, ◌*◌, Bool, cond, List, eqb, leb, length, 
 use Rattle.laws.specs.Choice.{also, ask, and_then}
 use Rattle.laws.specs.Fold.{every}
 use Rattle.laws.specs.Splice.{clipped}
-use Rattle.laws.specs.Around.{around, clippedAround}
+use Rattle.laws.specs.Around.{around, clipped_around}
 use Rattle.layout.specs.declared.Geometry.{Geometry}
 use Rattle.layout.specs.Geometry.{num_journal_blocks, ask_geometry}
 use Rattle.interval.specs.declared.JournalInterval.{JournalInterval}
@@ -28,10 +28,10 @@ slice_marks marks v = around marks v.start v.len
 
 -- the bytes and the marks after the interval's blocks were written, going round once at most
 unfoldable pub update_bytes : List ℕ → JournalInterval → List ℕ → List ℕ
-update_bytes blocks v new = clippedAround blocks (v.start * 4096) new
+update_bytes blocks v new = clipped_around blocks (v.start * 4096) new
 
 unfoldable pub update_marks : List ℕ → JournalInterval → List ℕ
-update_marks marks v = clippedAround marks v.start (replicate v.len 1)
+update_marks marks v = clipped_around marks v.start (replicate v.len 1)
 
 -- `dst` after `count` blocks of `src`, from its block `from` on, were copied to its block `at` and on
 unfoldable pub copy_blocks : List ℕ → ℕ → ℕ → List ℕ → ℕ → List ℕ

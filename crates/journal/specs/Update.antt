@@ -9,18 +9,18 @@ use Rattle.std.proofs.Math.Option.{Option, none, some}
 use native.Mathlib.Omega.{arith}
 use Rattle.std.proofs.Math.ListN.{get_or}
 use Rattle.std.proofs.lemmas.List.{length-replicate, get_or-replicate}
-use Rattle.laws.specs.Choice.{split-le}
-use Rattle.laws.specs.Part.{length-tab, getD-tab}
+use Rattle.laws.specs.Choice.{split_le}
+use Rattle.laws.specs.Part.{length_tab, get_d_tab}
 use Rattle.laws.specs.Ring.{off, off_scaled}
-use Rattle.laws.specs.Around.{spliceAround, length_splice_around, get_d_splice_around}
+use Rattle.laws.specs.Around.{splice_around, length_splice_around, get_d_splice_around}
 use Rattle.layout.specs.declared.Geometry.{Geometry}
 use Rattle.interval.specs.declared.JournalInterval.{JournalInterval}
 use Rattle.interval.specs.Journal.{JournalBlock, JournalUpdate}
-use Rattle.interval.specs.Laws.{splice_value_off}
-use Rattle.interval.specs.Update.{updated, updated_at, length_updated, updated_is}
+use Rattle.interval.proofs.Laws.{splice_value_off}
+use Rattle.interval.proofs.Update.{updated, updated_at, length_updated, updated_is}
 use Rattle.journal.specs.Memory.{is_one, update_bytes, update_marks, ask_update}
 use Rattle.journal.specs.Asked.{Update, update_asked}
-use Rattle.journal.specs.Laws.{update_bytes, update_marks}
+use Rattle.journal.specs.Laws.{update_bytes_is, update_marks_is}
 use Rattle.journal.specs.Cells.{block_at, blocks_in, cell_at, cells, length_cells, cell_at_is, same_block}
 
 -- an update of lent memory is the source's
@@ -35,7 +35,7 @@ module _ (g : Geometry) (v : JournalInterval) (new blocks marks : List ℕ) (u :
   mark_after : (i : ℕ) → i < g.blocks
       → get_or (update_marks marks v) i 0 ≡ cond (ltb (off g.blocks v.start i) v.len) (get_or (replicate v.len 1) (off g.blocks v.start i) 0) (get_or marks i 0)
   mark_after i h =
-      ap (λ (l : List ℕ). get_or l i 0) (update_marks g v new blocks marks u)
+      ap (λ (l : List ℕ). get_or l i 0) (update_marks_is g v new blocks marks u)
       ∙ get_d_splice_around marks v.start (replicate v.len 1) i 0 (omega arith) (omega (arith, ones)) (omega arith)
       ∙ (λ j.
       cond (ltb (off (u.marks_size.size j) v.start i) (ones j)) (get_or (replicate v.len 1) (off (u.marks_size.size j) v.start i) 0) (get_or marks i 0))
@@ -44,7 +44,7 @@ module _ (g : Geometry) (v : JournalInterval) (new blocks marks : List ℕ) (u :
       → get_or (update_bytes blocks v new) (i * 4096 + r) 0
       ≡ cond (ltb (off g.blocks v.start i * 4096 + r) (v.len * 4096)) (get_or new (off g.blocks v.start i * 4096 + r) 0) (get_or blocks (i * 4096 + r) 0)
   byte_after i r h l =
-      ap (λ (x : List ℕ). get_or x (i * 4096 + r) 0) (update_bytes g v new blocks marks u)
+      ap (λ (x : List ℕ). get_or x (i * 4096 + r) 0) (update_bytes_is g v new blocks marks u)
       ∙ get_d_splice_around blocks (v.start * 4096) new (i * 4096 + r) 0 (omega (arith, size)) (omega (arith, size)) (omega (arith, size))
       ∙ (λ j.
       cond (ltb (off (size j) (v.start * 4096) (i * 4096 + r)) (u.new_size j)) (get_or new (off (size j) (v.start * 4096) (i * 4096 + r)) 0) (get_or blocks (i * 4096 + r) 0))
@@ -53,18 +53,18 @@ module _ (g : Geometry) (v : JournalInterval) (new blocks marks : List ℕ) (u :
 
   length_after : length (update_bytes blocks v new) ≡ g.blocks * 4096
   length_after =
-      ap length (update_bytes g v new blocks marks u) ∙ length_splice_around blocks (v.start * 4096) new (omega (arith, size)) (omega (arith, size)) ∙ size
+      ap length (update_bytes_is g v new blocks marks u) ∙ length_splice_around blocks (v.start * 4096) new (omega (arith, size)) (omega (arith, size)) ∙ size
 
   in_blocks : (i : ℕ) → i < v.len → get_or (blocks_in v.len new) i [] ≡ block_at new i
   unfolding blocks_in
-  in_blocks i h = getD-tab v.len (block_at new) i [] h
+  in_blocks i h = get_d_tab v.len (block_at new) i [] h
 
   cell_after : (i : ℕ) → i < g.blocks
       → cell_at (update_bytes blocks v new) (update_marks marks v) i
       ≡ cond (ltb (off g.blocks v.start i) v.len) (some (get_or (blocks_in v.len new) (off g.blocks v.start i) [])) (cell_at blocks marks i)
   unfolding is_one
   cell_after i h =
-      split-le v.len o
+      split_le v.len o
       (λ l.
       let m : get_or (update_marks marks v) i 0 ≡ get_or marks i 0 = mark_after i h ∙ simp (le-ltb o v.len l) in
       let b : block_at (update_bytes blocks v new) i ≡ block_at blocks i =
@@ -86,7 +86,7 @@ module _ (g : Geometry) (v : JournalInterval) (new blocks marks : List ℕ) (u :
 
   long : v.len ≡ length (blocks_in v.len new)
   unfolding blocks_in
-  long = sym (length-tab v.len (block_at new))
+  long = sym (length_tab v.len (block_at new))
 
   pub cells_update : cells g (update_bytes blocks v new) (update_marks marks v) ≡ updated (cells g blocks marks) v (blocks_in v.len new)
   cells_update =

@@ -10,23 +10,23 @@ use native.Mathlib.Omega.{arith}
 use Rattle.std.proofs.Math.ListN.{length, take, drop, get_or, length-take, length-drop, get_or-append}
 use Rattle.std.proofs.lemmas.List.{length-replicate}
 use Rattle.std.proofs.Math.Seq.{length-take-le, take_all, take-take, take-append-le, take-append-add, take-nil, drop-nil, get_or-take, get_or-drop, get_or-append-add}
-use Rattle.laws.specs.Choice.{also, also_both, by-ltb, split-le}
+use Rattle.laws.specs.Choice.{also, also_both, by_ltb, split_le}
 use Rattle.laws.specs.Fold.{every, every_append, every_take, every_drop}
 use Rattle.laws.specs.Part.{min_less, drop_end, take_min, drop_min, take_front, drop_take, length_part, part_replicate}
 use Rattle.laws.specs.Splice.{splice, clipped, clipped_fits, clipped_then, length_clipped, length_splice, get_d_splice_before, get_d_splice_here, get_d_splice_after, splice_none}
-use Rattle.laws.specs.Ring.{wrap, off, by-wrap, by-off, wrap_in, off_in, wrap_add, wrap_off, off_wrap, off_shift}
+use Rattle.laws.specs.Ring.{wrap, off, by_wrap, by_off, wrap_in, off_in, wrap_add, wrap_off, off_wrap, off_shift}
 
 -- the n elements from `at` on, going round
 unfoldable pub around {ℓ} : {A : Type ℓ} → List A → ℕ → ℕ → List A
 around s at n = take n (drop at s ++ take at s)
 
 -- d with the elements of s from `at` on, up to d's end, and the rest of s from d's front on
-unfoldable pub spliceAround {ℓ} : {A : Type ℓ} → List A → ℕ → List A → List A
-spliceAround d at s = splice (splice d at (take (length d - at) s)) 0 (drop (length d - at) s)
+unfoldable pub splice_around {ℓ} : {A : Type ℓ} → List A → ℕ → List A → List A
+splice_around d at s = splice (splice d at (take (length d - at) s)) 0 (drop (length d - at) s)
 
 -- the same of the first elements of s, as many as d has: what a write does that goes round once at most
-abbrev pub clippedAround {ℓ} : {A : Type ℓ} → List A → ℕ → List A → List A
-clippedAround d at s = spliceAround d at (take (length d) s)
+abbrev pub clipped_around {ℓ} : {A : Type ℓ} → List A → ℕ → List A → List A
+clipped_around d at s = splice_around d at (take (length d) s)
 
 module _ {ℓ} {A : Type ℓ} where
   pub length_around : (s : List A) (at n : ℕ) → at ≤ length s → n ≤ length s → length (around s at n) ≡ n
@@ -38,7 +38,7 @@ module _ {ℓ} {A : Type ℓ} where
   unfolding around
   get_d_around s at n t x h k l =
       get_or-take n (drop at s ++ take at s) t x l
-      ∙ by-wrap (λ (w : ℕ). get_or (drop at s ++ take at s) t x ≡ get_or s w x) (length s) (at + t)
+      ∙ by_wrap (λ (w : ℕ). get_or (drop at s ++ take at s) t x ≡ get_or s w x) (length s) (at + t)
       (λ m.
       let e : length (drop at s) + (at + t - length s) ≡ t = simp length-drop (omega arith) in
       ap (λ (j : ℕ). get_or (drop at s ++ take at s) j x) (sym e)
@@ -46,8 +46,8 @@ module _ {ℓ} {A : Type ℓ} where
       ∙ get_or-take at s (at + t - length s) x (omega arith))
       (λ m. get_or-append (drop at s) (take at s) x t (simp length-drop (omega arith)) ∙ get_or-drop at s t x)
 
-  pub length_splice_around : (d : List A) (at : ℕ) (s : List A) → at ≤ length d → length s ≤ length d → length (spliceAround d at s) ≡ length d
-  unfolding spliceAround
+  pub length_splice_around : (d : List A) (at : ℕ) (s : List A) → at ≤ length d → length s ≤ length d → length (splice_around d at s) ≡ length d
+  unfolding splice_around
   length_splice_around d at s h k =
       length_splice (splice d at (take (length d - at) s)) 0 (drop (length d - at) s) (omega (arith, first, rest)) ∙ first
     where
@@ -59,12 +59,12 @@ module _ {ℓ} {A : Type ℓ} where
 
   -- element i: the write's, where i lies within it, else what was there
   pub get_d_splice_around : (d : List A) (at : ℕ) (s : List A) (i : ℕ) (x : A) → at < length d → length s ≤ length d → i < length d
-      → get_or (spliceAround d at s) i x ≡ cond (ltb (off (length d) at i) (length s)) (get_or s (off (length d) at i) x) (get_or d i x)
-  unfolding spliceAround
+      → get_or (splice_around d at s) i x ≡ cond (ltb (off (length d) at i) (length s)) (get_or s (off (length d) at i) x) (get_or d i x)
+  unfolding splice_around
   get_d_splice_around d at s i x h k l =
-      by-off (λ (o : ℕ). get_or (spliceAround d at s) i x ≡ cond (ltb o (length s)) (get_or s o x) (get_or d i x)) (length d) at i
+      by_off (λ (o : ℕ). get_or (splice_around d at s) i x ≡ cond (ltb o (length s)) (get_or s o x) (get_or d i x)) (length d) at i
       (λ m.
-      by-ltb (λ (y : A). get_or (spliceAround d at s) i x ≡ y) (i - at) (length s) (get_or s (i - at) x) (get_or d i x)
+      by_ltb (λ (y : A). get_or (splice_around d at s) i x ≡ y) (i - at) (length s) (get_or s (i - at) x) (get_or d i x)
       (λ n.
       let e : at + (i - at) ≡ i = omega arith in
       get_d_splice_after mid 0 rest i x (omega (arith, length_rest)) (omega arith)
@@ -75,7 +75,7 @@ module _ {ℓ} {A : Type ℓ} where
       get_d_splice_after mid 0 rest i x (omega (arith, length_rest)) (omega arith)
       ∙ get_d_splice_after d at first i x (omega (arith, length_first)) (omega arith)))
       (λ m.
-      by-ltb (λ (y : A). get_or (spliceAround d at s) i x ≡ y) (i + length d - at) (length s) (get_or s (i + length d - at) x) (get_or d i x)
+      by_ltb (λ (y : A). get_or (splice_around d at s) i x ≡ y) (i + length d - at) (length s) (get_or s (i + length d - at) x) (get_or d i x)
       (λ n.
       let e : length d - at + i ≡ i + length d - at = omega arith in
       ap (λ (j : ℕ). get_or (splice mid 0 rest) j x) (sym (zero-add i))
@@ -102,30 +102,30 @@ module _ {ℓ} {A : Type ℓ} where
       length_rest = length-drop (length d - at) s
 
   -- a write of nothing, and a run after a run going round
-  pub splice_around_none : (d : List A) (at : ℕ) → spliceAround d at [] ≡ d
-  unfolding spliceAround
+  pub splice_around_none : (d : List A) (at : ℕ) → splice_around d at [] ≡ d
+  unfolding splice_around
   splice_around_none d at =
       (λ i. splice (splice d at (take-nil {A = A} (length d - at) i)) 0 (drop-nil {A = A} (length d - at) i))
       ∙ sym (splice_none (splice d at []) 0)
       ∙ sym (splice_none d at)
 
   -- a write from a place past the end is a write from the front
-  pub splice_around_past : (d : List A) (at : ℕ) (s : List A) → length d ≤ at → spliceAround d at s ≡ splice d 0 s
-  unfolding spliceAround
+  pub splice_around_past : (d : List A) (at : ℕ) (s : List A) → length d ≤ at → splice_around d at s ≡ splice d 0 s
+  unfolding splice_around
   splice_around_past d at s h =
       let e : length d - at ≡ 0 = omega arith in
       (λ i. splice (splice d at (take (e i) s)) 0 (drop (e i) s)) ∙ ap (λ (l : List A). splice l 0 s) (sym (splice_none d at))
 
   -- so a place past the end may be told as the end
-  pub splice_around_min : (d : List A) (at : ℕ) (s : List A) → spliceAround d (min at (length d)) s ≡ spliceAround d at s
+  pub splice_around_min : (d : List A) (at : ℕ) (s : List A) → splice_around d (min at (length d)) s ≡ splice_around d at s
   splice_around_min d at s =
-      split-le at (length d)
+      split_le at (length d)
       (λ h. rw (min-eq_left h))
       (λ h. rw (min-eq_right (le_of_lt h)) (splice_around_past d (length d) s (omega arith) ∙ sym (splice_around_past d at s (omega arith))))
 
   -- nothing is cut off a write that is no longer than the ring
-  pub clipped_around_fits : (d : List A) (at : ℕ) (s : List A) → length s ≤ length d → clippedAround d at s ≡ spliceAround d at s
-  clipped_around_fits d at s h = ap (spliceAround d at) (take_all (length d) s h)
+  pub clipped_around_fits : (d : List A) (at : ℕ) (s : List A) → length s ≤ length d → clipped_around d at s ≡ splice_around d at s
+  clipped_around_fits d at s h = ap (splice_around d at) (take_all (length d) s h)
 
   -- what stands at offset o of a ring of S places after a run s and then a run t behind it, y having stood there before
   abbrev twice : List A → List A → ℕ → ℕ → A → A → A
@@ -133,9 +133,9 @@ module _ {ℓ} {A : Type ℓ} where
 
   twice_is : (s t : List A) (S o : ℕ) (x y : A) → length s + length t ≤ S → twice s t S o x y ≡ cond (ltb o (length (s ++ t))) (get_or (s ++ t) o x) y
   twice_is s t S o x y k =
-      by-off (λ (q : ℕ). cond (ltb q (length t)) (get_or t q x) (cond (ltb o (length s)) (get_or s o x) y) ≡ cond (ltb o (length (s ++ t))) (get_or (s ++ t) o x) y) S (length s) o
+      by_off (λ (q : ℕ). cond (ltb q (length t)) (get_or t q x) (cond (ltb o (length s)) (get_or s o x) y) ≡ cond (ltb o (length (s ++ t))) (get_or (s ++ t) o x) y) S (length s) o
       (λ m.
-      by-ltb (λ (z : A). z ≡ cond (ltb o (length (s ++ t))) (get_or (s ++ t) o x) y) (o - length s) (length t) (get_or t (o - length s) x) (cond (ltb o (length s)) (get_or s o x) y)
+      by_ltb (λ (z : A). z ≡ cond (ltb o (length (s ++ t))) (get_or (s ++ t) o x) y) (o - length s) (length t) (get_or t (o - length s) x) (cond (ltb o (length s)) (get_or s o x) y)
       (λ l.
       let e : length s + (o - length s) ≡ o = omega arith in
       sym
@@ -147,10 +147,10 @@ module _ {ℓ} {A : Type ℓ} where
       (sym (get_or-append s t x o m)))
 
   pub splice_around_then : (d : List A) (at : ℕ) (s t : List A) → at < length d → length s + length t ≤ length d
-      → spliceAround (spliceAround d at s) (wrap (length d) (at + length s)) t ≡ spliceAround d at (s ++ t)
-  splice_around_then d at s [] h k = splice_around_none (spliceAround d at s) (wrap (length d) (at + length s)) ∙ ap (spliceAround d at) (sym (append-nil s))
+      → splice_around (splice_around d at s) (wrap (length d) (at + length s)) t ≡ splice_around d at (s ++ t)
+  splice_around_then d at s [] h k = splice_around_none (splice_around d at s) (wrap (length d) (at + length s)) ∙ ap (splice_around d at) (sym (append-nil s))
   splice_around_then d at s (x ∷ xs) h k =
-      ext_get_or x (spliceAround w next t) (spliceAround d at (s ++ t)) (long2 ∙ sym long_both)
+      ext_get_or x (splice_around w next t) (splice_around d at (s ++ t)) (long2 ∙ sym long_both)
       (λ i l.
       let m : i < length d = omega (arith, l, long2) in
       second i m
@@ -161,7 +161,7 @@ module _ {ℓ} {A : Type ℓ} where
       t = x ∷ xs
 
       w : List A
-      w = spliceAround d at s
+      w = splice_around d at s
 
       next : ℕ
       next = wrap (length d) (at + length s)
@@ -172,16 +172,16 @@ module _ {ℓ} {A : Type ℓ} where
       long : length w ≡ length d
       long = length_splice_around d at s (omega (arith, h)) (omega (arith, k))
 
-      long2 : length (spliceAround w next t) ≡ length d
+      long2 : length (splice_around w next t) ≡ length d
       long2 = length_splice_around w next t (omega (arith, next_in, long)) (omega (arith, k, long)) ∙ long
 
       both : length (s ++ t) ≡ length s + length t
       both = length-append s t
 
-      long_both : length (spliceAround d at (s ++ t)) ≡ length d
+      long_both : length (splice_around d at (s ++ t)) ≡ length d
       long_both = length_splice_around d at (s ++ t) (omega (arith, h)) (omega (arith, k, both))
 
-      second : (i : ℕ) → i < length d → get_or (spliceAround w next t) i x ≡ twice s t (length d) (off (length d) at i) x (get_or d i x)
+      second : (i : ℕ) → i < length d → get_or (splice_around w next t) i x ≡ twice s t (length d) (off (length d) at i) x (get_or d i x)
       second i l =
           get_d_splice_around w next t i x (omega (arith, next_in, long)) (omega (arith, k, long)) (omega (arith, l, long))
           ∙ ap (λ (n : ℕ). cond (ltb (off n next i) (length t)) (get_or t (off n next i) x) (get_or w i x)) long
@@ -193,12 +193,12 @@ module _ {ℓ} {A : Type ℓ} where
               ∙ off_shift (length d) at (length s) (off (length d) at i) h (omega (arith, k)) (off_in (length d) at i h l)
 
   -- a run after a run, as a writer has it: cut where the memory ends, which it does not reach
-  pub around_run : (d x y s t : List A) (at p : ℕ) → at < length d → length s + length t ≤ length d → x ≡ spliceAround d at s → p ≡ wrap (length d) (at + length s)
-      → y ≡ spliceAround x p (take (length x) t) → y ≡ spliceAround d at (s ++ t)
+  pub around_run : (d x y s t : List A) (at p : ℕ) → at < length d → length s + length t ≤ length d → x ≡ splice_around d at s → p ≡ wrap (length d) (at + length s)
+      → y ≡ splice_around x p (take (length x) t) → y ≡ splice_around d at (s ++ t)
   around_run d x y s t at p h k e q f =
       f
-      ∙ ap (spliceAround x p) (take_all (length x) t (omega (arith, k, long)))
-      ∙ (λ i. spliceAround (e i) (q i) t)
+      ∙ ap (splice_around x p) (take_all (length x) t (omega (arith, k, long)))
+      ∙ (λ i. splice_around (e i) (q i) t)
       ∙ splice_around_then d at s t h k
     where
       long : length x ≡ length d
@@ -206,8 +206,8 @@ module _ {ℓ} {A : Type ℓ} where
 
   -- as many elements as the ring has, written by two writes that are cut at the end: from `at` on, and the rest from the front on
   pub around_two : (d x y : List A) (at : ℕ) (s : List A) (first end : ℕ) → first ≡ min (length d - at) (length s) → end ≡ min (length d) (length s)
-      → x ≡ clipped d at s → y ≡ clipped x 0 (take (end - first) (drop first s)) → y ≡ spliceAround d at (take (length d) s)
-  unfolding clipped spliceAround
+      → x ≡ clipped d at s → y ≡ clipped x 0 (take (end - first) (drop first s)) → y ≡ splice_around d at (take (length d) s)
+  unfolding clipped splice_around
   around_two d x y at s first end ef ee ex ey =
       ey
       ∙ clipped_fits x 0 (take (end - first) (drop first s)) short
@@ -224,7 +224,7 @@ module _ {ℓ} {A : Type ℓ} where
 
       rest : take (end - first) (drop first s) ≡ drop (length d - at) (take (length d) s)
       rest =
-          split-le (length s) (length d - at)
+          split_le (length s) (length d - at)
           (λ h.
           let e : length s ≤ first = omega (arith, ef) in
           ap (take (end - first)) (drop_end s first e)
@@ -240,14 +240,14 @@ module _ {ℓ} {A : Type ℓ} where
           ∙ ap (λ (n : ℕ). drop (length d - at) (take n s)) (add-sub_of_le (sub-le (length d) at)))
 
   pub around_fill : (d x y : List A) (at n : ℕ) (v : A) (first end : ℕ) → first ≡ min (length d - at) n → end ≡ min (length d) n
-      → x ≡ clipped d at (replicate n v) → y ≡ clipped x 0 (replicate (end - first) v) → y ≡ spliceAround d at (take (length d) (replicate n v))
+      → x ≡ clipped d at (replicate n v) → y ≡ clipped x 0 (replicate (end - first) v) → y ≡ splice_around d at (take (length d) (replicate n v))
   around_fill d x y at n v first end ef ee ex ey =
       let l : length (replicate n v) ≡ n = length-replicate n v in
       around_two d x y at (replicate n v) first end (ef ∙ ap (min (length d - at)) (sym l)) (ee ∙ ap (min (length d)) (sym l)) ex
       (ey ∙ ap (clipped x 0) (sym (part_replicate first (end - first) n v (omega arith))))
 
   -- the interval that a write covered shows the write
-  around_here_by : (d : List A) (at : ℕ) (s : List A) (x : A) → at < length d → length s ≤ length d → around (spliceAround d at s) at (length s) ≡ s
+  around_here_by : (d : List A) (at : ℕ) (s : List A) (x : A) → at < length d → length s ≤ length d → around (splice_around d at s) at (length s) ≡ s
   around_here_by d at s x h k =
       ext_get_or x (around w at (length s)) s
       (length_around w at (length s) (omega (arith, long)) (omega (arith, long)))
@@ -260,7 +260,7 @@ module _ {ℓ} {A : Type ℓ} where
       ∙ simp (lt-ltb t (length s) lt))
     where
       w : List A
-      w = spliceAround d at s
+      w = splice_around d at s
 
       long : length w ≡ length d
       long = length_splice_around d at s (omega (arith, h)) k
@@ -285,9 +285,9 @@ module _ {ℓ} {A : Type ℓ} where
 
   -- a write that covers no place of an interval leaves what the interval shows
   around_elsewhere_by : (d : List A) (p : ℕ) (s : List A) (q m : ℕ) (x : A) → p < length d → length s ≤ length d → q < length d → m ≤ length d
-      → ((t : ℕ) → t < m → length s ≤ off (length d) p (wrap (length d) (q + t))) → around (spliceAround d p s) q m ≡ around d q m
+      → ((t : ℕ) → t < m → length s ≤ off (length d) p (wrap (length d) (q + t))) → around (splice_around d p s) q m ≡ around d q m
   around_elsewhere_by d p s q m x hp hs hq hm f =
-      around_same d (spliceAround d p s) q m x (length_splice_around d p s (omega arith) hs) hq hm
+      around_same d (splice_around d p s) q m x (length_splice_around d p s (omega arith) hs) hq hm
       (λ t l.
       get_d_splice_around d p s (wrap (length d) (q + t)) x hp hs (wrap_in (length d) (q + t) (omega arith))
       ∙ simp (le-ltb (off (length d) p (wrap (length d) (q + t))) (length s) (f t l)))
@@ -320,7 +320,7 @@ module _ {ℓ} {A : Type ℓ} where
 
       go : (t : ℕ) → t < n + m → get_or s (wrap (length s) (at + t)) x ≡ get_or (around s at n ++ around s next m) t x
       go t lt =
-          split-le n t
+          split_le n t
           (λ l.
           let e : n + (t - n) ≡ t = omega arith in
           sym
@@ -360,7 +360,7 @@ module _ {ℓ} {A : Type ℓ} where
   around_parts s at n place first rest ep ef er =
       sym (around_min s at n)
       ∙ ap (λ (p : ℕ). around s p n) (sym ep)
-      ∙ split-le n (length s - place)
+      ∙ split_le n (length s - place)
       (λ h.
       let e : n ≡ first = omega arith in
       let z : rest ≡ 0 = omega arith in
@@ -420,7 +420,7 @@ module _ {ℓ} {A : Type ℓ} where
 
 -- the last laws again, with no element to name: a ring with a place has one
 module _ {ℓ} {A : Type ℓ} where
-  pub around_here : (d : List A) (at : ℕ) (s : List A) → at < length d → length s ≤ length d → around (spliceAround d at s) at (length s) ≡ s
+  pub around_here : (d : List A) (at : ℕ) (s : List A) → at < length d → length s ≤ length d → around (splice_around d at s) at (length s) ≡ s
   around_here [] at s h k = absurd (omega arith)
   around_here (y ∷ d) at s h k = around_here_by (y ∷ d) at s y h k
 
@@ -429,7 +429,7 @@ module _ {ℓ} {A : Type ℓ} where
   around_append (y ∷ s) at n m h k = around_append_by (y ∷ s) at n m y h k
 
   pub around_elsewhere : (d : List A) (p : ℕ) (s : List A) (q m : ℕ) → p < length d → length s ≤ length d → q < length d → m ≤ length d
-      → ((t : ℕ) → t < m → length s ≤ off (length d) p (wrap (length d) (q + t))) → around (spliceAround d p s) q m ≡ around d q m
+      → ((t : ℕ) → t < m → length s ≤ off (length d) p (wrap (length d) (q + t))) → around (splice_around d p s) q m ≡ around d q m
   around_elsewhere [] p s q m hp hs hq hm f = absurd (omega arith)
   around_elsewhere (y ∷ d) p s q m hp hs hq hm f = around_elsewhere_by (y ∷ d) p s q m y hp hs hq hm f
 

@@ -35,11 +35,11 @@ unless q old new = cond (eqb q 0) new old
 pub ruin {ℓ} : {G : Type ℓ} → ◌≡◌ {A = ℕ} 0 1 → G
 ruin e = absurd (omega arith)
 
-pub false-true {ℓ} : {G : Type ℓ} → false ≡ true → G
-false-true e = ruin (ap (λ (b : Bool). cond b 1 0) e)
+pub false_true {ℓ} : {G : Type ℓ} → false ≡ true → G
+false_true e = ruin (ap (λ (b : Bool). cond b 1 0) e)
 
-pub true-false {ℓ} : {G : Type ℓ} → true ≡ false → G
-true-false e = false-true (sym e)
+pub true_false {ℓ} : {G : Type ℓ} → true ≡ false → G
+true_false e = false_true (sym e)
 
 -- the code's `&` of two tests
 pub and_also : (a b : Bool) → a && b ≡ also a b
@@ -56,7 +56,7 @@ also_left false b e = e
 pub also_right : (a b : Bool) → also a b ≡ true → b ≡ true
 unfolding also
 also_right true b e = e
-also_right false b e = false-true e
+also_right false b e = false_true e
 
 pub also_both : (a b : Bool) → a ≡ true → b ≡ true → also a b ≡ true
 unfolding also
@@ -97,7 +97,7 @@ true_also b = refl
 pub either_left : (a b : Bool) → a ≡ true → either a b ≡ true
 unfolding either
 either_left true b p = refl
-either_left false b p = false-true p
+either_left false b p = false_true p
 
 pub either_right : (a b : Bool) → b ≡ true → either a b ≡ true
 unfolding either
@@ -116,7 +116,7 @@ neither_left false b e = refl
 
 pub neither_right : (a b : Bool) → either a b ≡ false → b ≡ false
 unfolding either
-neither_right true b e = true-false e
+neither_right true b e = true_false e
 neither_right false b e = e
 
 pub either_neither : (a b : Bool) → a ≡ false → b ≡ false → either a b ≡ false
@@ -172,11 +172,11 @@ ask_yes n false h e = absurd (h e)
 pub ask_holds : (n : ℕ) (b : Bool) → b ≡ true → ask n b ≡ 0
 unfolding ask
 ask_holds n true e = refl
-ask_holds n false e = false-true e
+ask_holds n false e = false_true e
 
 pub ask_fails : (n : ℕ) (b : Bool) → b ≡ false → ask n b ≡ n
 unfolding ask
-ask_fails n true e = true-false e
+ask_fails n true e = true_false e
 ask_fails n false e = refl
 
 -- the same of a question before others: its no is the answer, and its yes leaves the answer to them
@@ -187,15 +187,15 @@ pub asks_yes : (n : ℕ) (b : Bool) (r : ℕ) → b ≡ true → and_then (ask n
 asks_yes n b r e = and_then_done (ask n b) r (ask_holds n b e)
 
 -- the two cases of a test: a fact about the chosen value follows from one about each
-pub by-leb {ℓ κ} : {A : Type ℓ} (P : A → Type κ) (m n : ℕ) (x y : A) → (m ≤ n → P x) → (n < m → P y) → P (cond (leb m n) x y)
-by-leb P m n x y f g = go (leb m n) refl
+pub by_leb {ℓ κ} : {A : Type ℓ} (P : A → Type κ) (m n : ℕ) (x y : A) → (m ≤ n → P x) → (n < m → P y) → P (cond (leb m n) x y)
+by_leb P m n x y f g = go (leb m n) refl
   where
     go : (b : Bool) → leb m n ≡ b → P (cond b x y)
     go true e = f (leb-true m n e)
     go false e = g (leb-false m n e)
 
-pub by-ltb {ℓ κ} : {A : Type ℓ} (P : A → Type κ) (m n : ℕ) (x y : A) → (m < n → P x) → (n ≤ m → P y) → P (cond (ltb m n) x y)
-by-ltb P m n x y f g = go (ltb m n) refl
+pub by_ltb {ℓ κ} : {A : Type ℓ} (P : A → Type κ) (m n : ℕ) (x y : A) → (m < n → P x) → (n ≤ m → P y) → P (cond (ltb m n) x y)
+by_ltb P m n x y f g = go (ltb m n) refl
   where
     go : (b : Bool) → ltb m n ≡ b → P (cond b x y)
     go true e = f (ltb-true m n e)
@@ -222,36 +222,36 @@ module _ {ℓ} {A : Type ℓ} (q : ℕ) (yes no : A) where
       (λ h e. inl (h, e))
       (λ h e. inr (h, e))
 
-pub unless-kept {ℓ} : {A : Type ℓ} (q : ℕ) (old new : A) → (q ≡ 0 → ⊥) → unless q old new ≡ old
+pub unless_kept {ℓ} : {A : Type ℓ} (q : ℕ) (old new : A) → (q ≡ 0 → ⊥) → unless q old new ≡ old
 unfolding unless
-unless-kept q old new h = asked_no q new old h
+unless_kept q old new h = asked_no q new old h
 
-pub unless-done {ℓ} : {A : Type ℓ} (q : ℕ) (old new : A) → q ≡ 0 → unless q old new ≡ new
+pub unless_done {ℓ} : {A : Type ℓ} (q : ℕ) (old new : A) → q ≡ 0 → unless q old new ≡ new
 unfolding unless
-unless-done q old new h = asked_yes q new old h
+unless_done q old new h = asked_yes q new old h
 
 pub unless_same {ℓ} : {A : Type ℓ} (q : ℕ) (x : A) → x ≡ unless q x x
 unfolding unless
 unless_same {A = A} q x = by_eqb (λ (y : A). x ≡ y) q 0 x x (λ h. refl) (λ h. refl)
 
 -- the same for a step that has the refusal in a number of its own
-pub refused-kept {ℓ} : {A : Type ℓ} (r q : ℕ) (old new : A) → r ≡ q → (r ≡ 0 → ⊥) → old ≡ unless q old new
-refused-kept r q old new e h = sym (unless-kept q old new (λ z. h (e ∙ z)))
+pub refused_kept {ℓ} : {A : Type ℓ} (r q : ℕ) (old new : A) → r ≡ q → (r ≡ 0 → ⊥) → old ≡ unless q old new
+refused_kept r q old new e h = sym (unless_kept q old new (λ z. h (e ∙ z)))
 
 -- and what it answers with that number
-pub refused-said {ℓ} : {A : Type ℓ} (r q : ℕ) (x : A) (f : ℕ → A) → r ≡ q → (r ≡ 0 → ⊥) → f r ≡ cond (eqb q 0) x (f q)
-refused-said r q x f e h = ap f e ∙ sym (asked_no q x (f q) (λ z. h (e ∙ z)))
+pub refused_said {ℓ} : {A : Type ℓ} (r q : ℕ) (x : A) (f : ℕ → A) → r ≡ q → (r ≡ 0 → ⊥) → f r ≡ cond (eqb q 0) x (f q)
+refused_said r q x f e h = ap f e ∙ sym (asked_no q x (f q) (λ z. h (e ∙ z)))
 
 -- a bare dichotomy of two numbers, and of a test
-pub split-le {κ} : {P : Type κ} (m n : ℕ) → (m ≤ n → P) → (n < m → P) → P
-split-le {P = P} m n f g = by-leb (λ (u : Unit {0}). P) m n tt tt f g
+pub split_le {κ} : {P : Type κ} (m n : ℕ) → (m ≤ n → P) → (n < m → P) → P
+split_le {P = P} m n f g = by_leb (λ (u : Unit {0}). P) m n tt tt f g
 
-pub split-eq {κ} : {P : Type κ} (m n : ℕ) → (m ≡ n → P) → ((m ≡ n → ⊥) → P) → P
-split-eq {P = P} m n f g = by_eqb (λ (u : Unit {0}). P) m n tt tt f g
+pub split_eq {κ} : {P : Type κ} (m n : ℕ) → (m ≡ n → P) → ((m ≡ n → ⊥) → P) → P
+split_eq {P = P} m n f g = by_eqb (λ (u : Unit {0}). P) m n tt tt f g
 
-pub split-bool {κ} : {P : Type κ} (b : Bool) → (b ≡ true → P) → (b ≡ false → P) → P
-split-bool true f g = f refl
-split-bool false f g = g refl
+pub split_bool {κ} : {P : Type κ} (b : Bool) → (b ≡ true → P) → (b ≡ false → P) → P
+split_bool true f g = f refl
+split_bool false f g = g refl
 
 -- a test that can't hold
 pub not_so : (b : Bool) → (b ≡ true → ⊥) → b ≡ false
@@ -260,17 +260,17 @@ not_so false h = refl
 
 -- the other answer of a test
 pub not_true : (b : Bool) → not b ≡ true → b ≡ false
-not_true true e = false-true e
+not_true true e = false_true e
 not_true false e = refl
 
 pub not_false : (b : Bool) → not b ≡ false → b ≡ true
 not_false true e = refl
-not_false false e = true-false e
+not_false false e = true_false e
 
 -- an option that is given where a test holds
-pub cond-some {ℓ} : {A : Type ℓ} (b : Bool) (x y : A) → cond b (some x) none ≡ some y → (b ≡ true) × (x ≡ y)
-cond-some true x y e = (refl, cc)
-cond-some false x y e = ruin (cc)
+pub cond_some {ℓ} : {A : Type ℓ} (b : Bool) (x y : A) → cond b (some x) none ≡ some y → (b ≡ true) × (x ≡ y)
+cond_some true x y e = (refl, cc)
+cond_some false x y e = ruin (cc)
 
 -- two tests that hold in the same cases are equal
 pub same_test : (a b : Bool) → (a ≡ true → b ≡ true) → (b ≡ true → a ≡ true) → a ≡ b

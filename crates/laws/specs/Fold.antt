@@ -5,7 +5,7 @@ use Rattle.std.specs.Prelude.{Bool, true, false, ◌≡◌, eqb, length, take, d
 use Rattle.std.proofs.Math.Path.{refl, sym, ap}
 use Rattle.std.proofs.Common.{◌∙◌, add-zero, zero-add, add_assoc, add_comm, mul-suc, zero-mul, suc-mul, arith, eq-eqb, eqb-true, take-append-drop, drop-drop}
 use mathlib.Core.List.{List, [], ◌∷◌, ◌++◌}
-use Rattle.laws.specs.Choice.{also, also_left, also_right, also_both, also_assoc, also_true, false-true, not_so}
+use Rattle.laws.specs.Choice.{also, also_left, also_right, also_both, also_assoc, also_true, false_true, not_so}
 use Rattle.laws.specs.Part.{drop_step, take_step, drop_end}
 
 -- the sum of the numbers
@@ -174,8 +174,8 @@ sum_bound k (x ∷ xs) f =
 pub same_is : (xs ys : List ℕ) → same xs ys ≡ true → xs ≡ ys
 unfolding same
 same_is [] [] e = refl
-same_is [] (y ∷ ys) e = false-true e
-same_is (x ∷ xs) [] e = false-true e
+same_is [] (y ∷ ys) e = false_true e
+same_is (x ∷ xs) [] e = false_true e
 same_is (x ∷ xs) (y ∷ ys) e = λ i. eqb-true x y (also_left (eqb x y) (same xs ys) e) i ∷ same_is xs ys (also_right (eqb x y) (same xs ys) e) i
 
 pub same_self : (xs : List ℕ) → same xs xs ≡ true
@@ -210,11 +210,11 @@ module _ (xs ys : List ℕ) (i : ℕ) where
   same_end a h k e = sym (also_true a) ∙ (λ j. also a (same (sym (drop_end xs i h) j) (sym (drop_end ys i k) j))) ∙ e
 
 -- two tests that agree place by place agree as wholes
-pub every-same {ℓ κ} : {A : Type ℓ} {B : Type κ} (p : A → Bool) (q : B → Bool) (xs : List A) (ys : List B) (d : A) (e : B) → length xs ≡ length ys
+pub every_same {ℓ κ} : {A : Type ℓ} {B : Type κ} (p : A → Bool) (q : B → Bool) (xs : List A) (ys : List B) (d : A) (e : B) → length xs ≡ length ys
     → ((i : ℕ) → i < length xs → p (get_or xs i d) ≡ q (get_or ys i e)) → every p xs ≡ every q ys
 unfolding every
-every-same p q [] [] d e h f = refl
-every-same p q [] (y ∷ ys) d e h f = absurd (omega arith)
-every-same p q (x ∷ xs) [] d e h f = absurd (omega arith)
-every-same p q (x ∷ xs) (y ∷ ys) d e h f =
-    λ i. also (f 0 (omega arith) i) (every-same p q xs ys d e (omega arith) (λ j k. f (suc j) (omega arith)) i)
+every_same p q [] [] d e h f = refl
+every_same p q [] (y ∷ ys) d e h f = absurd (omega arith)
+every_same p q (x ∷ xs) [] d e h f = absurd (omega arith)
+every_same p q (x ∷ xs) (y ∷ ys) d e h f =
+    λ i. also (f 0 (omega arith) i) (every_same p q xs ys d e (omega arith) (λ j k. f (suc j) (omega arith)) i)

@@ -2,7 +2,7 @@
 -- n + 1 is found.
 use Rattle.std.specs.Prelude.{ℕ, zero, suc, ◌+◌, ◌-◌, ◌≤◌, ◌<◌, Bool, true, false, cond, ◌≡◌, refl, List, [], ◌∷◌, length}
 use Rattle.std.proofs.Common.{sym, ◌∙◌, ap, arith}
-use Rattle.laws.specs.Choice.{split-eq, true-false, false-true}
+use Rattle.laws.specs.Choice.{split_eq, true_false, false_true}
 use Rattle.laws.specs.Sets.{ids_of, Distinct, AtMost, distinct_few, few_within, ids_of_there, out_cons}
 
 -- from i on, n numbers are looked at
@@ -38,7 +38,7 @@ least_lower p (suc n) i j h k = by (λ a b. least_lower p n (i + 1) j a b) (p i)
     by : (i + 1 ≤ j → j < least_from p n (i + 1) → p j ≡ true) → (b : Bool) → p i ≡ b → p j ≡ true
     by rest false e = let q : least_from p (suc n) i ≡ i = least_hit p (suc n) i e in absurd (omega (arith, h, k, q))
     by rest true e =
-        split-eq i j (λ q. ap p (sym q) ∙ e)
+        split_eq i j (λ q. ap p (sym q) ∙ e)
         (λ q.
         let f : least_from p (suc n) i ≡ least_from p n (i + 1) = ap (λ (b : Bool). cond b (least_from p n (i + 1)) i) e in
         rest (omega (arith, h, q)) (omega (arith, k, f)))
@@ -50,7 +50,7 @@ least_or_all p zero i h = omega arith
 least_or_all p (suc n) i h = by (least_or_all p n (i + 1)) (p i) refl
   where
     by : (p (least_from p n (i + 1)) ≡ true → least_from p n (i + 1) ≡ (i + 1) + n) → (b : Bool) → p i ≡ b → least_from p (suc n) i ≡ i + suc n
-    by rest false e = true-false (sym h ∙ ap p (least_hit p (suc n) i e) ∙ e)
+    by rest false e = true_false (sym h ∙ ap p (least_hit p (suc n) i e) ∙ e)
     by rest true e =
         let f : least_from p (suc n) i ≡ least_from p n (i + 1) = ap (λ (b : Bool). cond b (least_from p n (i + 1)) i) e in
         let r = rest (sym (ap p f) ∙ h) in
@@ -68,8 +68,8 @@ below_long (suc n) = ap suc (below_long n)
 
 below_less : (n i : ℕ) → ids_of (below n) i ≡ true → i < n
 unfolding below ids_of
-below_less zero i e = false-true e
-below_less (suc n) i e = split-eq n i (λ q. omega (arith, q)) (λ q. let r = below_less n i (sym (ids_of_there n i (below n) q) ∙ e) in omega (arith, r))
+below_less zero i e = false_true e
+below_less (suc n) i e = split_eq n i (λ q. omega (arith, q)) (λ q. let r = below_less n i (sym (ids_of_there n i (below n) q) ∙ e) in omega (arith, r))
 
 below_out : (n i : ℕ) → n ≤ i → ids_of (below n) i ≡ false
 unfolding below ids_of
@@ -90,7 +90,7 @@ least_free p n few = by (p (least_from p n 0)) refl
     by true e =
         let all : least_from p n 0 ≡ n = let a = least_or_all p n 0 e in omega (arith, a) in
         let held : (i : ℕ) → i < suc n → p i ≡ true = λ i h.
-        split-eq n i (λ q. ap p (sym (all ∙ q)) ∙ e) (λ q. least_lower p n 0 i (omega arith) (omega (arith, h, q, all)))
+        split_eq n i (λ q. ap p (sym (all ∙ q)) ∙ e) (λ q. least_lower p n 0 i (omega arith) (omega (arith, h, q, all)))
         in
         let d = distinct_few n (below (suc n)) (below_distinct (suc n)) (few_within n (ids_of (below (suc n))) p few (λ i q. held i (below_less (suc n) i q))) in
         let l = below_long (suc n) in

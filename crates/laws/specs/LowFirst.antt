@@ -12,7 +12,7 @@ use borrow.Author.Tests.{ltb-true}
 use Rattle.laws.specs.Bytes.{is_byte, Bytes}
 use Rattle.laws.specs.Choice.{also_left, also_right, also_both}
 use Rattle.laws.specs.Fold.{every, every_append, every_take, every_drop}
-use Rattle.laws.specs.Part.{tab, tab-same}
+use Rattle.laws.specs.Part.{tab, tab_same}
 use Rattle.laws.specs.Digits.{digits, from_digits, is_digit, length_digits, from_digits_digits, digits_from_digits, digits_each, from_digits_short}
 
 -- a number in w bytes, and the number that bytes make
@@ -106,7 +106,7 @@ module _ (w : ℕ) where
       from_low (take w (drop (first i) xs))
       ∷ (ap (each_from_low w n) (drop-drop w a xs)
       ∙ each_from_low_tab n (a + w) xs
-      ∙ tab-same n (λ j. from_low (take w (drop (a + w + j * w) xs))) (λ j. from_low (take w (drop (a + suc j * w) xs)))
+      ∙ tab_same n (λ j. from_low (take w (drop (a + w + j * w) xs))) (λ j. from_low (take w (drop (a + suc j * w) xs)))
       (λ j h. ap (λ (m : ℕ). from_low (take w (drop m xs))) (next j))) i
     where
       first : a ≡ a + 0 * w

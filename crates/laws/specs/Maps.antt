@@ -6,12 +6,12 @@ use Rattle.std.proofs.Common.{◌∙◌, subst, arith, eqb-true}
 use mathlib.Core.List.{List, [], ◌∷◌, ◌++◌, map}
 use Rattle.std.proofs.Math.Option
 use Rattle.std.proofs.Math.Option.{Option, none, some, some-injective}
-use Rattle.laws.specs.Choice.{ruin, true-false, split-eq, also_left, also_right, also_both}
-use Rattle.laws.specs.Sets.{Ids, no_ids, join, leave, Map, no_keys, bind, unbind, is_key, keys, AtMost, ids_of, none-some, join_there, leave_here, leave_there, bind_there, unbind_here, unbind_there, each, map_of, Distinct, bind_here, out_head, out_tail, out_right, distinct_last}
+use Rattle.laws.specs.Choice.{ruin, true_false, split_eq, also_left, also_right, also_both}
+use Rattle.laws.specs.Sets.{Ids, empty_ids, join, leave, Map, no_keys, bind, unbind, is_key, keys, AtMost, ids_of, none_some, join_there, leave_here, leave_there, bind_there, unbind_here, unbind_there, each, map_of, Distinct, bind_here, out_head, out_tail, out_right, distinct_last}
 use Rattle.laws.specs.Fold.{every}
 
 -- one id, and a new id put in and taken out again
-pub one_few : (n k : ℕ) → 1 ≤ n → AtMost n (join no_ids k)
+pub one_few : (n k : ℕ) → 1 ≤ n → AtMost n (join empty_ids k)
 unfolding ids_of
 one_few n k h = record { listed = k ∷ []; few = h; all = λ i e. e }
 
@@ -19,10 +19,10 @@ pub leave_join : (s : Ids) (k : ℕ) → s k ≡ false → leave (join s k) k �
 leave_join s k e = λ z x. go x z
   where
     go : (x : ℕ) → leave (join s k) k x ≡ s x
-    go x = split-eq k x (λ n. ap (leave (join s k) k) (sym n) ∙ leave_here (join s k) k ∙ sym e ∙ ap s n) (λ n. leave_there (join s k) k x n ∙ join_there s k x n)
+    go x = split_eq k x (λ n. ap (leave (join s k) k) (sym n) ∙ leave_here (join s k) k ∙ sym e ∙ ap s n) (λ n. leave_there (join s k) k x n ∙ join_there s k x n)
 
-pub join_leave : (k : ℕ) → leave (join no_ids k) k ≡ no_ids
-join_leave k = leave_join no_ids k refl
+pub join_leave : (k : ℕ) → leave (join empty_ids k) k ≡ empty_ids
+join_leave k = leave_join empty_ids k refl
 
 -- every value of a map has the property
 abbrev pub Values : {A : Type 0} → (A → Type 0) → Map A → Type 0
@@ -48,19 +48,19 @@ module _ {A : Type 0} where
       go true o = refl
       go false o = refl
 
-  pub keys_one : (k : ℕ) (a : A) → keys (bind no_keys k a) ≡ join no_ids k
+  pub keys_one : (k : ℕ) (a : A) → keys (bind no_keys k a) ≡ join empty_ids k
   keys_one k a = keys_bind no_keys k a
 
   -- a map without keys has no value
   pub no_keys_some : {G : Type 0} (m : Map A) (id : ℕ) (v : A) → m ≡ no_keys → m id ≡ some v → G
-  no_keys_some m id v e q = none-some (ap (λ (f : Map A). f id) e) q
+  no_keys_some m id v e q = none_some (ap (λ (f : Map A). f id) e) q
 
-  pub no_keys_of : (m : Map A) → keys m ≡ no_ids → m ≡ no_keys
+  pub no_keys_of : (m : Map A) → keys m ≡ empty_ids → m ≡ no_keys
   no_keys_of m e = λ i x. go (m x) (ap (λ (f : Ids). f x) e) i
     where
       go : (o : Option A) → is_key o ≡ false → o ≡ none
       go none q = refl
-      go (some v) q = true-false q
+      go (some v) q = true_false q
 
   pub values_bind : (P : A → Type 0) (m : Map A) (k : ℕ) (a : A) → Values P m → P a → Values P (bind m k a)
   values_bind P m k a f h id v = go (eqb k id)
@@ -101,11 +101,11 @@ module _ {A : Type 0} where
   unbind_bind m k a e = λ z x. go x z
     where
       go : (x : ℕ) → unbind (bind m k a) k x ≡ m x
-      go x = split-eq k x (λ n. ap (unbind (bind m k a) k) (sym n) ∙ unbind_here (bind m k a) k ∙ sym e ∙ ap m n) (λ n. unbind_there (bind m k a) k x n ∙ bind_there m k x a n)
+      go x = split_eq k x (λ n. ap (unbind (bind m k a) k) (sym n) ∙ unbind_here (bind m k a) k ∙ sym e ∙ ap m n) (λ n. unbind_there (bind m k a) k x n ∙ bind_there m k x a n)
 
   -- a key that isn't there, unbound
   pub unbind_same : (m : Map A) (k : ℕ) → m k ≡ none → unbind m k ≡ m
-  unbind_same m k e = λ z x. split-eq k x (λ q. ap (unbind m k) (sym q) ∙ unbind_here m k ∙ sym e ∙ ap m q) (λ n. unbind_there m k x n) z
+  unbind_same m k e = λ z x. split_eq k x (λ q. ap (unbind m k) (sym q) ∙ unbind_here m k ∙ sym e ∙ ap m q) (λ n. unbind_there m k x n) z
 
   pub bind_unbind : (k : ℕ) (a : A) → unbind (bind no_keys k a) k ≡ no_keys
   bind_unbind k a = unbind_bind no_keys k a refl
@@ -209,8 +209,8 @@ module _ {A : Type 0} where
   -- a test of the values in the list and of the map's
   pub values_of : (p : A → Bool) (ks : List ℕ) (vs : List A) → every p vs ≡ true → Values (λ v. p v ≡ true) (map_of ks vs)
   unfolding map_of every
-  values_of p [] vs e = λ id v q. none-some refl q
-  values_of p (k ∷ ks) [] e = λ id v q. none-some refl q
+  values_of p [] vs e = λ id v q. none_some refl q
+  values_of p (k ∷ ks) [] e = λ id v q. none_some refl q
   values_of p (k ∷ ks) (u ∷ vs) e = values_bind (λ v. p v ≡ true) (map_of ks vs) k u (values_of p ks vs (also_right (p u) (every p vs) e)) (also_left (p u) (every p vs) e)
 
   pub of_values : (p : A → Bool) (ks : List ℕ) (vs : List A) → length ks ≡ length vs → Distinct ks → Values (λ v. p v ≡ true) (map_of ks vs) → every p vs ≡ true
@@ -222,4 +222,4 @@ module _ {A : Type 0} where
       also_both (p v) (every p vs)
       (f k v (bind_here (map_of ks vs) k v))
       (of_values p ks vs (omega arith) d.1
-      (λ id w e. f id w (bind_there (map_of ks vs) k id v (λ q. none-some (map_of_none ks vs k d.0) (ap (map_of ks vs) q ∙ e)) ∙ e)))
+      (λ id w e. f id w (bind_there (map_of ks vs) k id v (λ q. none_some (map_of_none ks vs k d.0) (ap (map_of ks vs) q ∙ e)) ∙ e)))

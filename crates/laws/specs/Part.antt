@@ -4,7 +4,7 @@ use Rattle.std.specs.Prelude.{ℕ, zero, suc, ◌+◌, ◌-◌, ◌≤◌, ◌<�
 use Rattle.std.proofs.Common.{sym, ◌∙◌, ap, append-nil, le_of_lt, add-one, arith, length-take, length-drop, take-append-drop, drop_of_length-le, drop-cons, take_all, take-suc, drop-drop, length-take-le, take-add, take-take, drop_at}
 use Rattle.std.proofs.Math.Nat.{sub-zero, zero-sub, zero-min, min-zero, min-eq_left, min-eq_right}
 use Rattle.std.proofs.Math.Seq.{take-nil}
-use Rattle.laws.specs.Choice.{split-le}
+use Rattle.laws.specs.Choice.{split_le}
 
 -- the lesser of two, less a number that neither is below
 pub min_less : (a m n : ℕ) → a ≤ m → a ≤ n → min m n - a ≡ min (m - a) (n - a)
@@ -43,7 +43,7 @@ module _ {ℓ} {A : Type ℓ} where
   -- a count that is cut at the length takes the same
   pub take_min : (xs : List A) (n r : ℕ) → length xs ≡ r → take (min n r) xs ≡ take n xs
   take_min xs n r e =
-      split-le n r
+      split_le n r
       (λ h. rw (min-eq_left h))
       (λ h. rw (min-eq_right (le_of_lt h)) (take_all r xs (omega arith) ∙ sym (take_all n xs (omega arith))))
 
@@ -54,14 +54,14 @@ module _ {ℓ} {A : Type ℓ} where
   -- a front of a front is the shorter one
   pub take_front : (m n : ℕ) (xs : List A) → take m (take n xs) ≡ take (min m n) xs
   take_front m n xs =
-      split-le m n
+      split_le m n
       (λ h. rw (min-eq_left h) (take-take m n xs h))
       (λ h. rw (min-eq_right (le_of_lt h)) (take_all m (take n xs) (simp length-take (omega arith))))
 
   -- a place that is cut at the end drops the same
   pub drop_min : (xs : List A) (n r : ℕ) → length xs ≡ r → drop (min n r) xs ≡ drop n xs
   drop_min xs n r e =
-      split-le n r
+      split_le n r
       (λ h. rw (min-eq_left h))
       (λ h. rw (min-eq_right (le_of_lt h)) (drop_end xs r (omega arith) ∙ sym (drop_end xs n (omega arith))))
 
@@ -82,7 +82,7 @@ module _ {ℓ} {A : Type ℓ} where
   pub drop_take : (a k : ℕ) (xs : List A) → drop a (take (a + k) xs) ≡ take k (drop a xs)
   drop_take a k xs =
       rw (take-add a k xs)
-      (split-le a (length xs)
+      (split_le a (length xs)
       (λ h. drop_at (take a xs) (take k (drop a xs)) a (length-take-le a xs h))
       (λ h.
       rw (drop_of_length-le xs {i = a} (omega arith), take_all a xs (omega arith), take-nil {A = A} k, append-nil xs)
@@ -125,10 +125,10 @@ module _ {ℓ} {A : Type ℓ} where
       ap (take k) (drop_replicate a n v) ∙ take_replicate k (n - a) v ∙ ap (λ (m : ℕ). replicate m v) e
 
 -- an element of a mapped list
-pub getD-map-in {ℓ κ} : {A : Type ℓ} {B : Type κ} (f : A → B) (xs : List A) (i : ℕ) (d : A) (e : B) → i < length xs → get_or (map f xs) i e ≡ f (get_or xs i d)
-getD-map-in f [] i d e h = absurd (omega arith)
-getD-map-in f (x ∷ xs) zero d e h = refl
-getD-map-in f (x ∷ xs) (suc i) d e h = getD-map-in f xs i d e (omega arith)
+pub get_d_map_in {ℓ κ} : {A : Type ℓ} {B : Type κ} (f : A → B) (xs : List A) (i : ℕ) (d : A) (e : B) → i < length xs → get_or (map f xs) i e ≡ f (get_or xs i d)
+get_d_map_in f [] i d e h = absurd (omega arith)
+get_d_map_in f (x ∷ xs) zero d e h = refl
+get_d_map_in f (x ∷ xs) (suc i) d e h = get_d_map_in f xs i d e (omega arith)
 
 -- a part of the images is the images of the part
 module _ {ℓ κ} {A : Type ℓ} {B : Type κ} (f : A → B) where
@@ -147,19 +147,19 @@ unfoldable pub tab {ℓ} : {A : Type ℓ} → ℕ → (ℕ → A) → List A
 tab zero f = []
 tab (suc n) f = f 0 ∷ tab n (λ i. f (suc i))
 
-pub length-tab {ℓ} : {A : Type ℓ} (n : ℕ) (f : ℕ → A) → length (tab n f) ≡ n
+pub length_tab {ℓ} : {A : Type ℓ} (n : ℕ) (f : ℕ → A) → length (tab n f) ≡ n
 unfolding tab
-length-tab zero f = refl
-length-tab (suc n) f = ap suc (length-tab n (λ i. f (suc i)))
+length_tab zero f = refl
+length_tab (suc n) f = ap suc (length_tab n (λ i. f (suc i)))
 
-pub getD-tab {ℓ} : {A : Type ℓ} (n : ℕ) (f : ℕ → A) (i : ℕ) (d : A) → i < n → get_or (tab n f) i d ≡ f i
+pub get_d_tab {ℓ} : {A : Type ℓ} (n : ℕ) (f : ℕ → A) (i : ℕ) (d : A) → i < n → get_or (tab n f) i d ≡ f i
 unfolding tab
-getD-tab zero f i d h = absurd (omega arith)
-getD-tab (suc n) f zero d h = refl
-getD-tab (suc n) f (suc i) d h = getD-tab n (λ j. f (suc j)) i d (omega arith)
+get_d_tab zero f i d h = absurd (omega arith)
+get_d_tab (suc n) f zero d h = refl
+get_d_tab (suc n) f (suc i) d h = get_d_tab n (λ j. f (suc j)) i d (omega arith)
 
 -- two functions that agree below n give the same list
-pub tab-same {ℓ} : {A : Type ℓ} (n : ℕ) (f h : ℕ → A) → ((i : ℕ) → i < n → f i ≡ h i) → tab n f ≡ tab n h
+pub tab_same {ℓ} : {A : Type ℓ} (n : ℕ) (f h : ℕ → A) → ((i : ℕ) → i < n → f i ≡ h i) → tab n f ≡ tab n h
 unfolding tab
-tab-same zero f h e = refl
-tab-same (suc n) f h e = λ j. e 0 (omega arith) j ∷ tab-same n (λ i. f (suc i)) (λ i. h (suc i)) (λ i l. e (suc i) (omega arith)) j
+tab_same zero f h e = refl
+tab_same (suc n) f h e = λ j. e 0 (omega arith) j ∷ tab_same n (λ i. f (suc i)) (λ i. h (suc i)) (λ i l. e (suc i) (omega arith)) j

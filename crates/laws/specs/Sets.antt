@@ -3,14 +3,14 @@
 use Rattle.std.specs.Prelude.{ℕ, suc, ◌+◌, ◌≤◌, ◌<◌, Bool, true, false, cond, not, ◌≡◌, refl, List, [], ◌∷◌, ◌++◌, eqb, length}
 use Rattle.std.proofs.Common.{sym, ◌∙◌, ap, ⊎_elim, arith, length-append, eq-eqb, ne_eqb}
 use Rattle.std.proofs.Math.Option.{Option, none, some, map, some-injective, none-ne-some}
-use Rattle.laws.specs.Choice.{either, either_cases, split-eq, true-false, false-true, same_test}
+use Rattle.laws.specs.Choice.{either, either_cases, split_eq, true_false, false_true, same_test}
 
 -- set<uint64>
 abbrev pub Ids : Type 0
 Ids = ℕ → Bool
 
-abbrev pub no_ids : Ids
-no_ids i = false
+abbrev pub empty_ids : Ids
+empty_ids i = false
 
 -- s + {k}, s - {k}
 abbrev pub join : Ids → ℕ → Ids
@@ -117,8 +117,8 @@ module _ {A : Type 0} where
   pub same_value : {o : Option A} {a b : A} → o ≡ some a → o ≡ some b → a ≡ b
   same_value {a = a} {b = b} p q = some-injective a b (sym p ∙ q)
 
-  pub none-some {ℓ} : {G : Type ℓ} {o : Option A} {a : A} → o ≡ none → o ≡ some a → G
-  none-some {a = a} p q = absurd (none-ne-some a (sym p ∙ q))
+  pub none_some {ℓ} : {G : Type ℓ} {o : Option A} {a : A} → o ≡ none → o ≡ some a → G
+  none_some {a = a} p q = absurd (none-ne-some a (sym p ∙ q))
 
   -- a pair's own place, the other one, and a pair by its places
   pub at_both : (a : A) (w : Bool) → at (both a) w ≡ a
@@ -174,16 +174,16 @@ without_step x k ks h w =
       rest = k ∷ w.rest;
       shorter = ap suc w.shorter;
       others = λ i d e.
-          split-eq k i
+          split_eq k i
           (λ q. ap (λ (j : ℕ). ids_of (k ∷ w.rest) j) (sym q) ∙ ids_of_here k w.rest)
           (λ n. ids_of_there k i w.rest n ∙ w.others i d (sym (ids_of_there k i ks n) ∙ e));
     }
 
 without : (x : ℕ) (ks : List ℕ) → ids_of ks x ≡ true → Without x ks
 unfolding ids_of
-without x [] e = false-true e
+without x [] e = false_true e
 without x (k ∷ ks) e =
-    split-eq k x
+    split_eq k x
     (λ q. record { rest = ks; shorter = refl; others = λ i d f. sym (ids_of_there k i ks (λ n. d (sym q ∙ n))) ∙ f })
     (λ n. without_step x k ks n (without x ks (sym (ids_of_there k x ks n) ∙ e)))
 
@@ -197,9 +197,9 @@ distinct_within (x ∷ xs) ks d f =
     distinct_within xs w.rest d.1
     (λ i e.
     w.others i
-    (λ q. true-false (sym e ∙ ap (ids_of xs) (sym q) ∙ d.0))
+    (λ q. true_false (sym e ∙ ap (ids_of xs) (sym q) ∙ d.0))
     (f i
-    (split-eq x i
+    (split_eq x i
     (λ q. ap (ids_of (x ∷ xs)) (sym q) ∙ ids_of_here x xs)
     (λ n. ids_of_there x i xs n ∙ e)))) in
     let l = w.shorter in
@@ -220,8 +220,8 @@ few_listed n s ids l m = distinct_few n ids l.distinct (record { listed = m.list
 pub listed_at_most : (n : ℕ) (s : Ids) (ids : List ℕ) → Listed s ids → length ids ≤ n → AtMost n s
 listed_at_most n s ids l h = record { listed = ids; few = h; all = λ i e. sym (ap (λ (t : Ids). t i) l.are) ∙ e }
 
-pub none_few : (n : ℕ) → AtMost n no_ids
-none_few n = record { listed = []; few = omega arith; all = λ i e. false-true e }
+pub none_few : (n : ℕ) → AtMost n empty_ids
+none_few n = record { listed = []; few = omega arith; all = λ i e. false_true e }
 
 pub listed_few : (n : ℕ) (xs : List ℕ) → length xs ≤ n → AtMost n (ids_of xs)
 listed_few n xs h = record { listed = xs; few = h; all = λ i e. e }
@@ -236,7 +236,7 @@ not_first true b e = e
 not_first false b e = refl
 
 not_second : (a b : Bool) → cond a true b ≡ false → b ≡ false
-not_second true b e = true-false e
+not_second true b e = true_false e
 not_second false b e = e
 
 -- the set of two lists, and of a list with one number more at its end
@@ -271,7 +271,7 @@ pub out_right : (xs ys : List ℕ) (i : ℕ) → ids_of (xs ++ ys) i ≡ false �
 out_right xs ys i e = not_second (ids_of xs i) (ids_of ys i) (sym (ids_of_append xs ys i) ∙ e)
 
 pub out_head : (k i : ℕ) (ks : List ℕ) → ids_of (k ∷ ks) i ≡ false → k ≡ i → ⊥
-out_head k i ks e q = true-false (sym (ids_of_here k ks) ∙ ap (ids_of (k ∷ ks)) q ∙ e)
+out_head k i ks e q = true_false (sym (ids_of_here k ks) ∙ ap (ids_of (k ∷ ks)) q ∙ e)
 
 pub out_tail : (k i : ℕ) (ks : List ℕ) → ids_of (k ∷ ks) i ≡ false → ids_of ks i ≡ false
 out_tail k i ks e = sym (ids_of_there k i ks (out_head k i ks e)) ∙ e
@@ -344,16 +344,16 @@ either_few m n s t a b =
 
 -- a number that is there already joins as it stands, and one that isn't leaves as it stands
 pub join_same : (s : Ids) (k : ℕ) → s k ≡ true → join s k ≡ s
-join_same s k e = λ j i. split-eq k i (λ q. ap (join s k) (sym q) ∙ join_here s k ∙ sym e ∙ ap s q) (λ n. join_there s k i n) j
+join_same s k e = λ j i. split_eq k i (λ q. ap (join s k) (sym q) ∙ join_here s k ∙ sym e ∙ ap s q) (λ n. join_there s k i n) j
 
 pub leave_same : (s : Ids) (k : ℕ) → s k ≡ false → leave s k ≡ s
-leave_same s k e = λ j i. split-eq k i (λ q. ap (leave s k) (sym q) ∙ leave_here s k ∙ sym e ∙ ap s q) (λ n. leave_there s k i n) j
+leave_same s k e = λ j i. split_eq k i (λ q. ap (leave s k) (sym q) ∙ leave_here s k ∙ sym e ∙ ap s q) (λ n. leave_there s k i n) j
 
 -- a list that makes the empty set is empty
-pub none_listed : (xs : List ℕ) → ids_of xs ≡ no_ids → length xs ≡ 0
+pub none_listed : (xs : List ℕ) → ids_of xs ≡ empty_ids → length xs ≡ 0
 none_listed [] e = refl
-none_listed (x ∷ xs) e = true-false (sym (ids_of_here x xs) ∙ ap (λ (s : Ids). s x) e)
+none_listed (x ∷ xs) e = true_false (sym (ids_of_here x xs) ∙ ap (λ (s : Ids). s x) e)
 
 -- two sets with the same numbers are equal
-pub same_ids : (s t : Ids) → ((i : ℕ) → s i ≡ true → t i ≡ true) → ((i : ℕ) → t i ≡ true → s i ≡ true) → s ≡ t
-same_ids s t f g = λ j i. same_test (s i) (t i) (f i) (g i) j
+pub same_ids_is : (s t : Ids) → ((i : ℕ) → s i ≡ true → t i ≡ true) → ((i : ℕ) → t i ≡ true → s i ≡ true) → s ≡ t
+same_ids_is s t f g = λ j i. same_test (s i) (t i) (f i) (g i) j

@@ -10,7 +10,7 @@ use native.Mathlib.Omega.{arith}
 use Rattle.std.proofs.Math.ListN.{length, take, drop, replicate, length-append, length-take, get_or-append, get_or-map}
 use Rattle.std.proofs.lemmas.List.{length-replicate, replicate-append-replicate, length-map, take-append-le, set_at}
 use Rattle.std.proofs.Math.Seq.{length-take-le, take_at, drop_at, take-append-add, get_or-take}
-use Rattle.laws.specs.Choice.{split-le}
+use Rattle.laws.specs.Choice.{split_le}
 use Rattle.laws.specs.Part.{take_step, take_min, length_part, drop_take, drop_end, take_replicate}
 
 -- d with the elements of s from the place `at` on
@@ -239,7 +239,7 @@ module _ {ℓ} {A : Type ℓ} where
   pub length_clipped : (d : List A) (at : ℕ) (s : List A) → length (clipped d at s) ≡ length d
   unfolding clipped
   length_clipped d at s =
-      split-le at (length d)
+      split_le at (length d)
       (λ h. length_splice d at (take (length d - at) s) (simp length-take (omega arith)))
       (λ h. rw (zero_room h) (ap length (sym (splice_none d at))))
     where
@@ -260,7 +260,7 @@ module _ {ℓ} {A : Type ℓ} where
 
   pub clipped_min : (d : List A) (at : ℕ) (s : List A) → clipped d (min at (length d)) s ≡ clipped d at s
   clipped_min d at s =
-      split-le at (length d)
+      split_le at (length d)
       (λ h. rw (min-eq_left h))
       (λ h. rw (min-eq_right (le_of_lt h)) (clipped_past d (length d) s (omega arith) ∙ sym (clipped_past d at s (omega arith))))
 
@@ -268,7 +268,7 @@ module _ {ℓ} {A : Type ℓ} where
   pub clipped_then : (d : List A) (at : ℕ) (s t : List A) → clipped (clipped d at s) (at + length s) t ≡ clipped d at (s ++ t)
   unfolding clipped
   clipped_then d at s t =
-      split-le (at + length s) (length d)
+      split_le (at + length s) (length d)
       (λ h.
       let e : length s + (length d - (at + length s)) ≡ length d - at = omega arith in
       (λ i. splice (clipped_fits d at s h i) (at + length s) (take (length_clipped d at s i - (at + length s)) t))
@@ -308,8 +308,8 @@ module _ {ℓ} {A : Type ℓ} where
       e ∙ ap (splice d 0) (ap (λ (i : ℕ). take i (drop m d)) h ∙ take_min (drop m d) n (length d - m) (length-drop m d))
 
 -- the next turn of a loop that copies the images of the elements
-pub map-turn {ℓ κ} : {A : Type ℓ} {B : Type κ} (f : A → B) (x d : List B) (at : ℕ) (s : List A) (j : ℕ) (z : A)
+pub map_turn {ℓ κ} : {A : Type ℓ} {B : Type κ} (f : A → B) (x d : List B) (at : ℕ) (s : List A) (j : ℕ) (z : A)
     → x ≡ splice d at (take j (map f s)) → j < length s → at + j < length d → set x (at + j) (f (get_or s j z)) ≡ splice d at (take (j + 1) (map f s))
-map-turn f x d at s j z e h k =
+map_turn f x d at s j z e h k =
     ap (set x (at + j)) (sym (get_or-map f s j z))
     ∙ copy_turn x d at (map f s) j (f z) e (omega (arith, length-map s f)) k

@@ -78,9 +78,9 @@ pub table_not_journal : (g : Geometry) (loc : Location) → ValidIndirectionTabl
 table_not_journal g loc t j = ⊎_elim (λ h. omega arith) (λ h. omega arith) t.addr_valid
 
 -- the two superblock locations are the places that they name, and neither in the journal nor a table
-pub same_location : (a b : Location) → same_location a b ≡ true → a ≡ b
+pub same_location_is : (a b : Location) → same_location a b ≡ true → a ≡ b
 unfolding same_location
-same_location a b e =
+same_location_is a b e =
     λ i. record { addr = eqb-true a.addr b.addr (also_left _ _ e) i; len = eqb-true a.len b.len (also_right _ _ e) i }
 
 pub location_same : (a b : Location) → a ≡ b → same_location a b ≡ true
@@ -99,8 +99,8 @@ superblock_below : (loc : Location) → valid_superblock_location loc ≡ true �
 unfolding valid_superblock_location
 superblock_below loc e =
     ⊎_elim
-    (λ h. let k : loc.addr ≡ 0 = ap (λ (l : Location). l.addr) (same_location loc superblock1_location h) in omega arith)
-    (λ h. let k : loc.addr ≡ 4096 = ap (λ (l : Location). l.addr) (same_location loc superblock2_location h) in omega arith)
+    (λ h. let k : loc.addr ≡ 0 = ap (λ (l : Location). l.addr) (same_location_is loc superblock1_location h) in omega arith)
+    (λ h. let k : loc.addr ≡ 4096 = ap (λ (l : Location). l.addr) (same_location_is loc superblock2_location h) in omega arith)
     (either_cases _ _ e)
 
 pub superblock_not_journal : (g : Geometry) (loc : Location) → valid_superblock_location loc ≡ true → ValidJournalLocation g loc → ⊥

@@ -3,7 +3,7 @@ use Rattle.std.specs.Prelude.{ℕ, ◌+◌, ◌-◌, ◌≤◌, Bool, true, fals
 use Rattle.std.proofs.Common.{sym, ◌∙◌, arith, take-add, take_all}
 use Rattle.std.proofs.Math.Path.{ap}
 use borrow.Author.Tests.{leb-true, le-leb}
-use Rattle.laws.specs.Choice.{also, also_left, also_right, also_both, not_so, false-true, ruin}
+use Rattle.laws.specs.Choice.{also, also_left, also_right, also_both, not_so, false_true, ruin}
 use Rattle.laws.specs.Fold.{sum, every, sum_append, sum_split, every_append, every_take, every_drop}
 use Rattle.range.specs.Form.{ok_length}
 use Rattle.lengths.specs.declared.Held.{Held}
@@ -57,7 +57,7 @@ module _ (most room : ℕ) (lens : List ℕ) where
 
   held_nothing : held.Nothing ≡ held_of most room lens → AreHeld most room lens → ⊥
   unfolding held_of
-  held_nothing e f = false-true (sym (answer_nothing (held_ok most room lens) (sum lens) e) ∙ facts_held f)
+  held_nothing e f = false_true (sym (answer_nothing (held_ok most room lens) (sum lens) e) ∙ facts_held f)
 
 -- the lengths before the place `at` are held, and sum to s
 pub record SoFar (most room : ℕ) (lens : List ℕ) (at s : ℕ) : Type 0 where

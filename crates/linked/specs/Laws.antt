@@ -6,7 +6,7 @@ use Rattle.std.proofs.Common.{◌∙◌, arith, length-set}
 use Rattle.std.proofs.Math.ListN.{set}
 use Rattle.std.proofs.Math.Dec.{eqb}
 use borrow.Author.Tests.{eqb-true, eqb-false}
-use Rattle.laws.specs.Choice.{ask, ask_yes, and_then, and_then_first, and_then_done, unless, unless-kept, unless-done, ruin}
+use Rattle.laws.specs.Choice.{ask, ask_yes, and_then, and_then_first, and_then_done, unless, unless_kept, unless_done, ruin}
 use Rattle.layout.specs.declared.Geometry.{Geometry}
 use Rattle.superblock.specs.declared.MaybeId.{MaybeId}
 use Rattle.superblock.specs.declared.DiskOp.{DiskOp}
@@ -59,7 +59,7 @@ module _ (xs : List ℕ) (l : Lent) (brought sizes : List ℕ) (k : ℕ) where
   add_no p e h =
       let n : ask_numbers xs ≡ 0 → ⊥ = λ z. h (e ∙ z) in
       let f : and_then (ask_numbers xs) (ask_add (geometry_at xs) l (machine_of xs) brought sizes k) ≡ ask_numbers xs = and_then_first _ _ n in
-      (e ∙ sym f, sym (unless-kept _ _ _ (λ z. n (sym f ∙ z))))
+      (e ∙ sym f, sym (unless_kept _ _ _ (λ z. n (sym f ∙ z))))
 
   module _ (g : Geometry) (m : Machine) (r : MachineStepped) (p : ask_numbers xs ≡ 0) (eg : g ≡ geometry_at xs) (em : m ≡ machine_of xs) (er : r ≡ advance g l m brought sizes k) where
     add_is : r ≡ answered (ask_add_of xs l brought sizes k) op.NoDiskOp (added xs l brought sizes k) (machine_of xs)
@@ -69,22 +69,22 @@ module _ (xs : List ℕ) (l : Lent) (brought sizes : List ℕ) (k : ℕ) where
         ∙ ap (λ (q : ℕ). answered q op.NoDiskOp (added xs l brought sizes k) (machine_of xs)) (sym (and_then_done _ _ p))
 
     pub add_bytes : (x : List ℕ) → x ≡ advanced_bytes g l m brought sizes k → x ≡ unless (ask_numbers xs) l.bytes (advanced_bytes (geometry_at xs) l (machine_of xs) brought sizes k)
-    add_bytes x e = e ∙ (λ i. advanced_bytes (eg i) l (em i) brought sizes k) ∙ sym (unless-done _ _ _ p)
+    add_bytes x e = e ∙ (λ i. advanced_bytes (eg i) l (em i) brought sizes k) ∙ sym (unless_done _ _ _ p)
 
     pub add_lens : (x : List ℕ) → x ≡ advanced_lens g l m brought sizes k → x ≡ unless (ask_numbers xs) l.lens (advanced_lens (geometry_at xs) l (machine_of xs) brought sizes k)
-    add_lens x e = e ∙ (λ i. advanced_lens (eg i) l (em i) brought sizes k) ∙ sym (unless-done _ _ _ p)
+    add_lens x e = e ∙ (λ i. advanced_lens (eg i) l (em i) brought sizes k) ∙ sym (unless_done _ _ _ p)
 
     pub add_refused : (n : ℕ) → r.answer ≡ answer.Refused n → (n ≡ ask_add_of xs l brought sizes k) × (xs ≡ added_numbers xs l brought sizes k)
     unfolding added_numbers
     add_refused n h =
         let f = answered_refused _ _ _ _ r n add_is h in
-        (f.0, sym (unless-kept _ _ _ f.1))
+        (f.0, sym (unless_kept _ _ _ f.1))
 
     pub add_done : (d : DiskOp) → r.answer ≡ answer.Next d → (0 ≡ ask_add_of xs l brought sizes k) × (set xs 11 r.machine.ready.entries.pending ≡ added_numbers xs l brought sizes k)
     unfolding added_numbers
     add_done d h =
         let f = answered_next _ _ _ _ r d add_is h in
-        (sym f.0, ap (λ (x : Machine). set xs 11 x.ready.entries.pending) f.1 ∙ sym (unless-done _ _ _ f.0))
+        (sym f.0, ap (λ (x : Machine). set xs 11 x.ready.entries.pending) f.1 ∙ sym (unless_done _ _ _ f.0))
 
 -- a replay
 module _ (xs : List ℕ) (l : Lent) (brought sizes : List ℕ) (k : ℕ) where
@@ -93,7 +93,7 @@ module _ (xs : List ℕ) (l : Lent) (brought sizes : List ℕ) (k : ℕ) where
   replay_no p e h =
       let n : ask_numbers xs ≡ 0 → ⊥ = λ z. h (e ∙ z) in
       let f : and_then (ask_numbers xs) (and_then (ask_machine (geometry_at xs) l (machine_of xs)) (ask_replay_step (machine_of xs) l.rbytes l.rlens brought sizes k)) ≡ ask_numbers xs = and_then_first _ _ n in
-      (e ∙ sym f, sym (unless-kept _ _ _ (λ z. n (sym f ∙ z))))
+      (e ∙ sym f, sym (unless_kept _ _ _ (λ z. n (sym f ∙ z))))
 
   module _ (g : Geometry) (m : Machine) (r : MachineStepped) (p : ask_numbers xs ≡ 0) (eg : g ≡ geometry_at xs) (em : m ≡ machine_of xs) (er : r ≡ replay g l m brought sizes k) where
     replay_is : r ≡ answered (ask_replay_of xs l brought sizes k) op.NoDiskOp (replayed_to xs brought sizes k) (machine_of xs)
@@ -106,7 +106,7 @@ module _ (xs : List ℕ) (l : Lent) (brought sizes : List ℕ) (k : ℕ) where
     unfolding replayed_numbers
     replay_refused n h =
         let f = answered_refused _ _ _ _ r n replay_is h in
-        (f.0, sym (unless-kept _ _ _ f.1))
+        (f.0, sym (unless_kept _ _ _ f.1))
 
     pub replay_done : (d : DiskOp) → r.answer ≡ answer.Next d
         → (0 ≡ ask_replay_of xs l brought sizes k)
@@ -114,7 +114,7 @@ module _ (xs : List ℕ) (l : Lent) (brought sizes : List ℕ) (k : ℕ) where
     unfolding replayed_numbers
     replay_done d h =
         let f = answered_next _ _ _ _ r d replay_is h in
-        (sym f.0, ap (λ (x : Machine). set (set xs 14 x.ready.entries.taken.entries) 15 x.ready.entries.taken.bytes) f.1 ∙ sym (unless-done _ _ _ f.0))
+        (sym f.0, ap (λ (x : Machine). set (set xs 14 x.ready.entries.taken.entries) 15 x.ready.entries.taken.bytes) f.1 ∙ sym (unless_done _ _ _ f.0))
 
 -- a journal write
 module _ (xs : List ℕ) (l : Lent) (id1 : ℕ) (id2 : MaybeId) (out : List ℕ) where
@@ -123,7 +123,7 @@ module _ (xs : List ℕ) (l : Lent) (id1 : ℕ) (id2 : MaybeId) (out : List ℕ)
   write_no p e h =
       let n : ask_numbers xs ≡ 0 → ⊥ = λ z. h (e ∙ z) in
       let f : and_then (ask_numbers xs) (ask_write (geometry_at xs) l (machine_of xs) id1 id2 out) ≡ ask_numbers xs = and_then_first _ _ n in
-      (e ∙ sym f, sym (unless-kept _ _ _ (λ z. n (sym f ∙ z))))
+      (e ∙ sym f, sym (unless_kept _ _ _ (λ z. n (sym f ∙ z))))
 
   module _ (g : Geometry) (m : Machine) (j : MaybeId) (r : MachineStepped) (p : ask_numbers xs ≡ 0) (eg : g ≡ geometry_at xs) (em : m ≡ machine_of xs) (ej : j ≡ id2) (er : r ≡ write_back_journal_req g l m id1 j out) where
     write_is : r ≡ answered (ask_write_of xs l id1 id2 out) (write_back_journal_req_op (geometry_at xs) (machine_of xs) id1 id2 (bodies_of l.lens (machine_of xs))) (written_to xs l id1 id2) (machine_of xs)
@@ -133,22 +133,22 @@ module _ (xs : List ℕ) (l : Lent) (id1 : ℕ) (id2 : MaybeId) (out : List ℕ)
         ∙ ap (λ (q : ℕ). answered q (write_back_journal_req_op (geometry_at xs) (machine_of xs) id1 id2 (bodies_of l.lens (machine_of xs))) (written_to xs l id1 id2) (machine_of xs)) (sym (and_then_done _ _ p))
 
     pub write_out : (x : List ℕ) → x ≡ written_out g l m id1 j out → x ≡ unless (ask_numbers xs) out (written_out (geometry_at xs) l (machine_of xs) id1 id2 out)
-    write_out x e = e ∙ (λ i. written_out (eg i) l (em i) id1 (ej i) out) ∙ sym (unless-done _ _ _ p)
+    write_out x e = e ∙ (λ i. written_out (eg i) l (em i) id1 (ej i) out) ∙ sym (unless_done _ _ _ p)
 
     pub write_bytes : (x : List ℕ) → x ≡ written_bytes g l m id1 j out → x ≡ unless (ask_numbers xs) l.bytes (written_bytes (geometry_at xs) l (machine_of xs) id1 id2 out)
-    write_bytes x e = e ∙ (λ i. written_bytes (eg i) l (em i) id1 (ej i) out) ∙ sym (unless-done _ _ _ p)
+    write_bytes x e = e ∙ (λ i. written_bytes (eg i) l (em i) id1 (ej i) out) ∙ sym (unless_done _ _ _ p)
 
     pub write_lens : (x : List ℕ) → x ≡ written_lens g l m id1 j out → x ≡ unless (ask_numbers xs) l.lens (written_lens (geometry_at xs) l (machine_of xs) id1 id2 out)
-    write_lens x e = e ∙ (λ i. written_lens (eg i) l (em i) id1 (ej i) out) ∙ sym (unless-done _ _ _ p)
+    write_lens x e = e ∙ (λ i. written_lens (eg i) l (em i) id1 (ej i) out) ∙ sym (unless_done _ _ _ p)
 
     pub write_refused : (n : ℕ) → r.answer ≡ answer.Refused n → (n ≡ ask_write_of xs l id1 id2 out) × (xs ≡ written_numbers xs l id1 id2 out)
     unfolding written_numbers
     write_refused n h =
         let f = answered_refused _ _ _ _ r n write_is h in
-        (f.0, sym (unless-kept _ _ _ f.1))
+        (f.0, sym (unless_kept _ _ _ f.1))
 
     pub write_done : (d : DiskOp) → r.answer ≡ answer.Next d → (0 ≡ ask_write_of xs l id1 id2 out) × (with_written xs r.machine ≡ written_numbers xs l id1 id2 out)
     unfolding written_numbers
     write_done d h =
         let f = answered_next _ _ _ _ r d write_is h in
-        (sym f.0, ap (with_written xs) f.1 ∙ sym (unless-done _ _ _ f.0))
+        (sym f.0, ap (with_written xs) f.1 ∙ sym (unless_done _ _ _ f.0))

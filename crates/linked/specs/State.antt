@@ -33,7 +33,7 @@ superblock_at xs =
 
 -- 9 and 10: 1 where it is frozen, and up to which position
 abbrev pub frozen_at : List ℕ → Frozen
-frozen_at xs = record { is_frozen = eqb (get_or xs 9 0) 1; frozen_journal_position = get_or xs 10 0; frozen_loc = NoLocation }
+frozen_at xs = record { isFrozen = eqb (get_or xs 9 0) 1; frozenJournalPosition = get_or xs 10 0; frozenLoc = NoLocation }
 
 -- 11 to 15: entries pending, frozen, of the replay; of the replay taken, and their bytes
 abbrev pub entries_at : List ℕ → Entries
@@ -50,8 +50,8 @@ abbrev pub ready_of : List ℕ → Ready
 ready_of xs =
     record {
       superblock = superblock_at xs;
-      which_superblock = get_or xs 7 0;
-      written_journal_len = get_or xs 8 0;
+      whichSuperblock = get_or xs 7 0;
+      writtenJournalLen = get_or xs 8 0;
       frozen = frozen_at xs;
       commit = CommitNone;
       entries = entries_at xs;

@@ -45,8 +45,8 @@ written_to xs l id1 id2 = write_back_journal_req_machine (machine_of xs) id1 id2
 -- the four numbers, as a machine has them
 abbrev pub with_written : List ℕ → Machine → List ℕ
 with_written xs m =
-    set (set (set (set xs 8 m.ready.written_journal_len)
-    10 m.ready.frozen.frozen_journal_position)
+    set (set (set (set xs 8 m.ready.writtenJournalLen)
+    10 m.ready.frozen.frozenJournalPosition)
     11 m.ready.entries.pending)
     12 m.ready.entries.frozen
 

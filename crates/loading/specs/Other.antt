@@ -24,7 +24,7 @@ unfoldable pub selected_other : Superblock → Superblock → LoadingOther
 selected_other superblock1 superblock2 =
     record {
       superblock = select_superblock superblock1 superblock2;
-      which_superblock = select_superblock_index superblock1 superblock2;
+      whichSuperblock = select_superblock_index superblock1 superblock2;
       front = piece.Unread;
       back = piece.Unread;
     }
@@ -52,7 +52,7 @@ pieces_ok g s =
 unfoldable pub loading_other_ok : Geometry → LoadingOther → Bool
 loading_other_ok g s =
     also (also (wf_superblock g s.superblock)
-    (leb s.which_superblock 1))
+    (leb s.whichSuperblock 1))
     (pieces_ok g s)
 
 -- the interval that a number names, its piece, and the record with other pieces
@@ -63,7 +63,7 @@ abbrev pub piece_at : LoadingOther → ℕ → Piece
 piece_at s which = cond (is_second which) s.back s.front
 
 abbrev pub to_pieces : LoadingOther → Piece → Piece → LoadingOther
-to_pieces s front back = record { superblock = s.superblock; which_superblock = s.which_superblock; front = front; back = back }
+to_pieces s front back = record { superblock = s.superblock; whichSuperblock = s.whichSuperblock; front = front; back = back }
 
 -- PageInJournalReq: 4 which; 6 unless the piece is there and unread
 unfoldable pub ask_page_in_journal_req : Geometry → LoadingOther → ℕ → ℕ

@@ -56,9 +56,9 @@ unfoldable pub page_in_superblock_resp_next : Geometry → LoadingSuperblock →
 page_in_superblock_resp_next g s which id r = cond (superblock_awaited s which id) (to_slot s which (slot_read g r)) s
 
 -- one thing where a slot has a superblock, another where it has none
-abbrev pub ifHolds {ℓ} : {A : Type ℓ} → MaybeSuperblock → (Superblock → A) → A → A
-ifHolds (holds.Holds superblock) f a = f superblock
-ifHolds holds.Empty f a = a
+abbrev pub if_holds {ℓ} : {A : Type ℓ} → MaybeSuperblock → (Superblock → A) → A → A
+if_holds (holds.Holds superblock) f a = f superblock
+if_holds holds.Empty f a = a
 
 -- FinishLoadingSuperblockPhase: 6 unless both slots were read; the newer superblock is selected
 unfoldable pub ask_finish_loading_superblock_phase : LoadingSuperblock → ℕ
@@ -66,7 +66,7 @@ ask_finish_loading_superblock_phase s = ask 6 (also (slot_succeeded s.first) (sl
 
 unfoldable pub finish_loading_superblock_phase_next : LoadingSuperblock → LoadingOther → LoadingOther
 finish_loading_superblock_phase_next s other =
-    ifHolds (slot_holds s.first) (λ superblock1. ifHolds (slot_holds s.second) (λ superblock2. selected_other superblock1 superblock2) other) other
+    if_holds (slot_holds s.first) (λ superblock1. if_holds (slot_holds s.second) (λ superblock2. selected_other superblock1 superblock2) other) other
 
 -- ask again: 4 which; 6 unless the slot is corrupt
 unfoldable pub ask_ask_again : LoadingSuperblock → ℕ → ℕ

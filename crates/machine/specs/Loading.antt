@@ -109,7 +109,7 @@ ask_loaded g m pieces rbytes rlens =
     (ask_unpack (loaded_bytes m pieces) rbytes rlens)
 
 unfoldable pub loaded_machine : Machine → ℕ → Machine
-loaded_machine m replay = to_ready m (loaded m.other.superblock m.other.which_superblock replay)
+loaded_machine m replay = to_ready m (loaded m.other.superblock m.other.whichSuperblock replay)
 
 abbrev pub finish_loading_other_phase_machine : Machine → List ℕ → Machine
 finish_loading_other_phase_machine m pieces = loaded_machine m (length (all_entries (loaded_bytes m pieces)))

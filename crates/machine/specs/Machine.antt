@@ -66,7 +66,7 @@ abbrev pub no_superblock : Superblock
 no_superblock = record { counter = 0; journalStart = 0; journalLen = 0; indirectionTableLoc = record { addr = 0; len = 0 } }
 
 abbrev pub nothing_loaded : LoadingOther
-nothing_loaded = record { superblock = no_superblock; which_superblock = 0; front = piece.Unread; back = piece.Unread }
+nothing_loaded = record { superblock = no_superblock; whichSuperblock = 0; front = piece.Unread; back = piece.Unread }
 
 unfoldable pub initial_machine : Machine
 initial_machine =

@@ -54,7 +54,7 @@ ask_write_back_journal_req_step g m id1 id2 b =
 
 -- where the range goes
 abbrev pub sent_start : Geometry → Machine → ℕ
-sent_start g m = journal_pos_add g m.ready.superblock.journalStart m.ready.written_journal_len
+sent_start g m = journal_pos_add g m.ready.superblock.journalStart m.ready.writtenJournalLen
 
 abbrev pub write_back_journal_req_op : Geometry → Machine → ℕ → MaybeId → Bodies → DiskOp
 write_back_journal_req_op g m id1 id2 b = op.ReqWriteJournal id1 id2 (sent_start g m) (sent_blocks m.ready b)
@@ -69,7 +69,7 @@ written_machine m id1 id2 written =
     (sent_sync (none_frozen m.ready.entries) m.sync)
 
 abbrev pub write_back_journal_req_machine : Machine → ℕ → MaybeId → Bodies → Machine
-write_back_journal_req_machine m id1 id2 b = written_machine m id1 id2 (m.ready.written_journal_len + sent_blocks m.ready b)
+write_back_journal_req_machine m id1 id2 b = written_machine m id1 id2 (m.ready.writtenJournalLen + sent_blocks m.ready b)
 
 -- the range as the code finds it, by its questions: a no of question 3 comes first
 abbrev pub write_after : ℕ → JournalWrite → JournalWrite
@@ -160,7 +160,7 @@ received_or (maybe.Received loc) old = loc
 received_or maybe.NoLocation old = old
 
 abbrev pub new_location : Machine → Location
-new_location m = received_or m.ready.frozen.frozen_loc m.ready.superblock.indirectionTableLoc
+new_location m = received_or m.ready.frozen.frozenLoc m.ready.superblock.indirectionTableLoc
 
 abbrev pub advance_location_op : Geometry → Machine → ℕ → DiskOp
 advance_location_op g m id = commit_op m id (advanced_location g m.ready (new_location m))

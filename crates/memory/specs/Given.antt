@@ -1,7 +1,7 @@
 -- The entries that a lent memory holds: its bytes, its lengths and a count. And the entries that a caller brings.
 use Rattle.std.specs.Prelude.{ℕ, ◌*◌, ◌≤◌, true, ◌≡◌, List, length, leb}
 use Rattle.std.proofs.Common.{sym, ◌∙◌, ap, arith, leb-true, le-leb}
-use Rattle.laws.specs.Choice.{also, and_then, and_then_left, and_then_right, and_then_both, ask, also_left, also_right, also_both, ask_yes, ask_holds, ask_fails, not_so, false-true}
+use Rattle.laws.specs.Choice.{also, and_then, and_then_left, and_then_right, and_then_both, ask, also_left, also_right, also_both, ask_yes, ask_holds, ask_fails, not_so, false_true}
 use Rattle.range.specs.Form.{Entry, most_entry_length}
 use Rattle.range.specs.Blank.{none_blank}
 use Rattle.range.specs.Memory.{view, total}
@@ -78,7 +78,7 @@ module _ (e : Memory) where
   unfolding ask_given
   given_no h =
       counted_no _ 4 _ (omega arith)
-      (sym (ask_fails 4 _ (not_so _ (λ t. false-true (sym (entries_nothing _ _ _ _ h) ∙ also_right _ _ t)))))
+      (sym (ask_fails 4 _ (not_so _ (λ t. false_true (sym (entries_nothing _ _ _ _ h) ∙ also_right _ _ t)))))
 
   pub given_yes : (t : ℕ) → e.count ≤ most_given → held.Bytes t ≡ entries_held (length e.bytes) e.lens 0 e.count
       → answer.Now (record { entries = e.count; bytes = t }) ≡ counted (ask_given e) (count_of e)

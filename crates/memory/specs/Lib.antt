@@ -1,7 +1,6 @@
 pub mod Limits
 pub mod Answer
 pub mod Given
-pub mod Blank
 pub mod Pending
 pub mod Replay
 pub mod PendingLaws

@@ -32,19 +32,19 @@ module _ (l : Limits) (m e : Memory) (a : Appends l m e) where
       view_add m.bytes m.lens e.bytes e.lens m.count e.count (bytes_of m) (bytes_of e) (m.count + e.count)
       a.pending.held.there a.given.held.there refl refl (omega (arith, a.pending.held.fit, a.pending.lent.bytes_lent)) a.given.held.fit refl
 
-  pub appended_bytes : bytes_of (appended m e) ≡ bytes_of m + bytes_of e
-  appended_bytes =
+  pub appended_bytes_is : bytes_of (appended m e) ≡ bytes_of m + bytes_of e
+  appended_bytes_is =
       ap (total (splice m.lens m.count (take e.count e.lens))) many
       ∙ total_write m.lens (take e.count e.lens) m.count a.pending.held.there
 
-  appended_lens : take (m.count + e.count) (appended m e).lens ≡ take m.count m.lens ++ take e.count e.lens
-  appended_lens =
+  appended_lens_is : take (m.count + e.count) (appended m e).lens ≡ take m.count m.lens ++ take e.count e.lens
+  appended_lens_is =
       ap (λ (n : ℕ). take n (splice m.lens m.count (take e.count e.lens))) many
       ∙ take_splice_through m.lens m.count (take e.count e.lens) a.pending.held.there
 
   appended_each : every (ok_length most_entry_length) (take (m.count + e.count) (appended m e).lens) ≡ true
   appended_each =
-      ap (every (ok_length most_entry_length)) appended_lens
+      ap (every (ok_length most_entry_length)) appended_lens_is
       ∙ every_append (ok_length most_entry_length) (take m.count m.lens) (take e.count e.lens)
       ∙ also_both _ _ a.pending.held.each a.given.held.each
 
@@ -67,7 +67,7 @@ module _ (l : Limits) (m e : Memory) (a : Appends l m e) where
               order = omega arith;
               there = omega (arith, lens, a.pending.lent.lens_lent, a.entries_fit);
               each = appended_each;
-              fit = omega (arith, appended_bytes, a.bytes_fit);
+              fit = omega (arith, appended_bytes_is, a.bytes_fit);
             };
       })
 
@@ -75,7 +75,7 @@ module _ (l : Limits) (m e : Memory) (a : Appends l m e) where
   pub appended_bytes_behind : drop (bytes_of (appended m e)) (appended m e).bytes ≡ drop (bytes_of (appended m e)) m.bytes
   appended_bytes_behind =
       let n : bytes_of (appended m e) ≡ bytes_of m + length (take (bytes_of e) e.bytes) =
-      appended_bytes ∙ ap (λ (k : ℕ). bytes_of m + k) (sym (length-take-le (bytes_of e) e.bytes a.given.held.fit)) in
+      appended_bytes_is ∙ ap (λ (k : ℕ). bytes_of m + k) (sym (length-take-le (bytes_of e) e.bytes a.given.held.fit)) in
       ap (λ (k : ℕ). drop k (appended m e).bytes) n
       ∙ drop_splice m.bytes (bytes_of m) (take (bytes_of e) e.bytes) (omega (arith, room))
       ∙ ap (λ (k : ℕ). drop k m.bytes) (sym n)
@@ -104,8 +104,8 @@ module _ (l : Limits) (m : Memory) (k : ℕ) (p : Pending l m) (few : k ≤ m.co
   lens_long = length_part m.lens k (m.count - k) (omega (arith, whole, p.held.there))
 
   -- the other entries
-  pub front_entries : entries_of (front_taken m k) ≡ drop k (entries_of m)
-  front_entries =
+  pub front_entries_is : entries_of (front_taken m k) ≡ drop k (entries_of m)
+  front_entries_is =
       view_moved m.bytes m.lens m.count k (m.count - k) (total m.lens k) (bytes_of m - total m.lens k)
       p.held.there held whole refl (omega (arith, split))
 

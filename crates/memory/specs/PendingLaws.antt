@@ -3,7 +3,7 @@ use Rattle.std.specs.Prelude.{ℕ, ◌+◌, ◌-◌, ◌≤◌, ◌<◌, Bool, t
 use Rattle.std.proofs.Math.Path.{sym, ap}
 use Rattle.std.proofs.Common.{◌∙◌, subst, arith, length-take-le}
 use borrow.Author.Tests.{leb-true, le-leb}
-use Rattle.laws.specs.Choice.{ask, ask_yes, ask_holds, ask_fails, and_then, and_then_left, and_then_right, and_then_both, and_then_first, and_then_done, and_then_end, unless, unless-kept, unless-done, not_so, false-true}
+use Rattle.laws.specs.Choice.{ask, ask_yes, ask_holds, ask_fails, and_then, and_then_left, and_then_right, and_then_both, and_then_first, and_then_done, and_then_end, unless, unless_kept, unless_done, not_so, false_true}
 use Rattle.laws.specs.Fold.{sum}
 use Rattle.laws.specs.Splice.{splice, clipped, clipped_fits}
 use Rattle.range.specs.Form.{most_entries}
@@ -102,7 +102,7 @@ module _ (l : Limits) (m : Memory) (frozen : ℕ) where
         → pending.Refused 2 ≡ pending_counted (ask_frozen l m frozen) (first_of m frozen) (count_of m)
     count_front_no e =
         count_no
-        (λ f h. false-true (sym (entries_nothing _ _ _ _ e) ∙ facts_entries _ _ _ _ (entries_first l.bytes m.lens 0 frozen m.count f (omega arith) h)))
+        (λ f h. false_true (sym (entries_nothing _ _ _ _ e) ∙ facts_entries _ _ _ _ (entries_first l.bytes m.lens 0 frozen m.count f (omega arith) h)))
 
     module _ (first : ℕ) (front : held.Bytes first ≡ entries_held l.bytes m.lens 0 frozen) where
       first_held : Entries l.bytes m.lens 0 frozen
@@ -120,7 +120,7 @@ module _ (l : Limits) (m : Memory) (frozen : ℕ) where
       count_back_no e =
           count_no
           (λ f h.
-          false-true
+          false_true
           (sym (entries_nothing _ _ _ _ e)
           ∙ ap (λ (n : ℕ). entries_ok (l.bytes - n) m.lens frozen m.count) first_is
           ∙ facts_entries _ _ _ _ (entries_rest l.bytes m.lens 0 frozen m.count f (omega arith) h)))
@@ -194,7 +194,7 @@ module _ (l : Limits) (m e : Memory) where
       → (answer.Refused r ≡ append_answer l m e) × ((m.bytes ≡ (append_lent l m e).bytes) × (m.lens ≡ (append_lent l m e).lens))
   unfolding append_answer append_lent
   append_no r h q =
-      let kept = sym (unless-kept (ask_append l m e) m (appended m e) (λ z. h (q ∙ z))) in
+      let kept = sym (unless_kept (ask_append l m e) m (appended m e) (λ z. h (q ∙ z))) in
       (counted_no _ r _ h q, (ap (λ (o : Memory). o.bytes) kept, ap (λ (o : Memory). o.lens) kept))
 
   -- by questions 1 and 2, as pending memory was counted
@@ -256,7 +256,7 @@ module _ (l : Limits) (m e : Memory) where
           all = append_asked l m e asked
 
           done : appended m e ≡ unless (ask_append l m e) m (appended m e)
-          done = sym (unless-done _ _ _ asked)
+          done = sym (unless_done _ _ _ asked)
 
           new : c ≡ count_of e
           new = (counted_now _ _ _ g).1
@@ -277,7 +277,7 @@ module _ (l : Limits) (m : Memory) (k : ℕ) where
       → (answer.Refused r ≡ take_front_answer l m k) × ((m.bytes ≡ (take_front_lent l m k).bytes) × (m.lens ≡ (take_front_lent l m k).lens))
   unfolding take_front_answer take_front_lent
   front_no r h q =
-      let kept = sym (unless-kept (ask_take_front l m k) m (front_taken m k) (λ z. h (q ∙ z))) in
+      let kept = sym (unless_kept (ask_take_front l m k) m (front_taken m k) (λ z. h (q ∙ z))) in
       (counted_no _ r _ h q, (ap (λ (o : Memory). o.bytes) kept, ap (λ (o : Memory). o.lens) kept))
 
   -- as pending memory was counted, by as many of the first ones as there are
@@ -339,4 +339,4 @@ module _ (l : Limits) (m : Memory) (k : ℕ) where
           asked = and_then_both _ _ counts.0 (ask_holds 4 _ (le-leb k m.count (omega (arith, e, few))))
 
           done : front_taken m k ≡ unless (and_then (ask_pending l m) (ask 4 (leb k m.count))) m (front_taken m k)
-          done = sym (unless-done _ _ _ asked)
+          done = sym (unless_done _ _ _ asked)

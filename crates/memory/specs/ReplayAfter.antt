@@ -95,9 +95,9 @@ module _ (m : Memory) (taken : Count) (e : Memory) (h : Left m taken) (g : Given
       view_same e.bytes e.lens e.count (drop taken.bytes m.bytes) (drop taken.entries m.lens) (same_is _ _ (also_left _ _ t1)) (same_is _ _ (also_right _ _ t1))
       ∙ sym (next_view (leb-true e.count (m.count - taken.entries) (also_left _ _ t)))
 
-  pub is_next : e.count ≤ m.count - taken.entries → entries_of e ≡ take e.count (left_entries m taken) → next_of_replay m taken e ≡ true
+  pub is_next_is : e.count ≤ m.count - taken.entries → entries_of e ≡ take e.count (left_entries m taken) → next_of_replay m taken e ≡ true
   unfolding is_next bytes_left lens_left
-  is_next l s =
+  is_next_is l s =
       also_both _ _ (le-leb e.count (m.count - taken.entries) l) (also_both _ _ (is_same _ _ lens) (is_same _ _ bytes))
     where
       given : entries_of e ≡ view (drop taken.bytes m.bytes) (drop taken.entries m.lens) e.count
@@ -162,7 +162,7 @@ module _ (m : Memory) (taken : Count) (e : Memory) (h : Left m taken) (g : Given
 
   pub splits_next : (rest : List Entry) → left_entries m taken ≡ entries_of e ++ rest → next_of_replay m taken e ≡ true
   splits_next rest s =
-      is_next (omega (arith, ap length s, length-append (entries_of e) rest, length_left, long))
+      is_next_is (omega (arith, ap length s, length-append (entries_of e) rest, length_left, long))
       (sym (take_at (entries_of e) rest e.count long) ∙ ap (take e.count) (sym s))
     where
       long : length (entries_of e) ≡ e.count

@@ -2,7 +2,7 @@
 use Rattle.std.specs.Prelude.{ℕ, ◌+◌, ◌*◌, ◌-◌, ◌≤◌, ◌<◌, Bool, true, false, ◌&&◌, ◌≡◌, List, length, take, drop}
 use Rattle.std.proofs.Math.Path.{sym, ap}
 use Rattle.std.proofs.Common.{◌∙◌, arith, leb-true, le-leb, eqb-true, eq-eqb}
-use Rattle.laws.specs.Choice.{also, and_also, also_left, also_right, also_both, ask, ask_yes, ask_holds, ask_fails, and_then_left, and_then_right, and_then_both, and_then_first, and_then_done, not_so, false-true}
+use Rattle.laws.specs.Choice.{also, and_also, also_left, also_right, also_both, ask, ask_yes, ask_holds, ask_fails, and_then_left, and_then_right, and_then_both, and_then_first, and_then_done, not_so, false_true}
 use Rattle.laws.specs.Fold.{same}
 use Rattle.layout.specs.Geometry.{block_size, most_blocks}
 use Rattle.lengths.specs.Entries.{Entries, entries_held, entries_facts, facts_entries, entries_bytes, entries_nothing}
@@ -90,7 +90,7 @@ module _ (blocks : ℕ) (m : Memory) (taken : Count) (q : ask_replay_lent blocks
 
   pub left_no : held.Nothing ≡ entries_held (length m.bytes - taken.bytes) m.lens taken.entries m.count
       → answer.Refused 2 ≡ counted (ask_replay blocks m taken) (left_of m taken)
-  left_no h = left_refused (λ f. false-true (sym (entries_nothing _ _ _ _ h) ∙ facts_entries _ _ _ _ f.held))
+  left_no h = left_refused (λ f. false_true (sym (entries_nothing _ _ _ _ h) ∙ facts_entries _ _ _ _ f.held))
 
   pub left_yes : (t : ℕ) → taken.bytes ≤ length m.bytes
       → held.Bytes t ≡ entries_held (length m.bytes - taken.bytes) m.lens taken.entries m.count

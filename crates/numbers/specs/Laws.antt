@@ -10,7 +10,7 @@ use Rattle.laws.specs.Digits.{from_digits, from_digits_turn}
 use Rattle.laws.specs.Fold.{every_take, every_drop}
 use Rattle.laws.specs.Bytes.{is_byte, Bytes}
 use Rattle.laws.specs.LowFirst.{from_low, low_first, each_low, each_from_low, from_low_small, length_each_low, length_each_from_low, each_low_append, each_from_low_tab}
-use Rattle.laws.specs.Part.{drop_end, drop_min, take_step, length_part, getD-tab}
+use Rattle.laws.specs.Part.{drop_end, drop_min, take_step, length_part, get_d_tab}
 use Rattle.laws.specs.Splice.{splice, clipped, splice_none, splice_whole, clipped_min, clipped_then}
 
 -- what was read so far is the number of the bytes from `left` on, of the m bytes from `start` on
@@ -73,7 +73,7 @@ module _ (w : ℕ) where
   read_at n at i place xs h p =
       ap (λ (m : ℕ). from_low (take w (drop m xs))) p
       ∙ ap (λ (z : List ℕ). from_low (take w z)) (drop_min xs (at + i * w) (length xs) refl)
-      ∙ sym (ap (λ (z : List ℕ). get_or z i 0) (each_from_low_tab w n at xs) ∙ getD-tab n (λ j. from_low (take w (drop (at + j * w) xs))) i 0 h)
+      ∙ sym (ap (λ (z : List ℕ). get_or z i 0) (each_from_low_tab w n at xs) ∙ get_d_tab n (λ j. from_low (take w (drop (at + j * w) xs))) i 0 h)
 
   pub read_end : (x d : List ℕ) (i : ℕ) (xs : List ℕ) → x ≡ splice d 0 (take i (each_from_low w (length d) xs)) → length d ≤ i → x ≡ each_from_low w (length d) xs
   read_end x d i xs e h =

@@ -2,7 +2,7 @@
 -- of this: an entry that was stored before is read as it is. Assumes nothing.
 use Rattle.std.specs.Prelude.{ℕ, suc, ◌<◌, Bool, true, false, not, ◌≡◌, refl, List, [], ◌∷◌, length, get_or, replicate}
 use Rattle.std.proofs.Common.{sym, ◌∙◌, ap, arith, eqb-true}
-use Rattle.laws.specs.Choice.{also, true_also, also_left, also_right, also_both, not_true, split-bool, true-false}
+use Rattle.laws.specs.Choice.{also, true_also, also_left, also_right, also_both, not_true, split_bool, true_false}
 use Rattle.laws.specs.Fold.{every, Each, every_done, every_at, every_replicate}
 use Rattle.laws.specs.Bytes.{is_zero, zeros_are}
 use Rattle.range.specs.Form.{Entry}
@@ -25,9 +25,9 @@ pub record SomeBlank (es : List Entry) : Type 0 where
 
 pub some_blank : (es : List Entry) → none_blank es ≡ false → SomeBlank es
 unfolding none_blank blank every
-some_blank [] e = true-false e
+some_blank [] e = true_false e
 some_blank (x ∷ xs) e =
-    split-bool (blank x)
+    split_bool (blank x)
     (λ z. record { place = 0; there = omega arith; zeros = zeros_are x z })
     (λ n.
     let r = some_blank xs (sym (true_also (none_blank xs)) ∙ ap (λ (b : Bool). also (not b) (none_blank xs)) (sym n) ∙ e) in
@@ -37,8 +37,8 @@ pub blank_some : (es : List Entry) → SomeBlank es → none_blank es ≡ false
 unfolding none_blank blank is_zero
 blank_some es s =
     let z : blank (get_or es s.place []) ≡ true = ap blank s.zeros ∙ every_replicate is_zero (length (get_or es s.place [])) 0 refl in
-    split-bool (none_blank es)
-    (λ e. true-false (sym (every_at some_byte es s.place [] e s.there) ∙ ap not z))
+    split_bool (none_blank es)
+    (λ e. true_false (sym (every_at some_byte es s.place [] e s.there) ∙ ap not z))
     (λ e. e)
 
 -- said of each entry
@@ -59,4 +59,4 @@ no_byte e h = every_done is_zero e 0 (omega (arith, h)) refl
 
 pub some_byte_is : (e : Entry) (i : ℕ) → i < length e → (get_or e i 0 ≡ 0 → ⊥) → false ≡ blank e
 unfolding blank is_zero
-some_byte_is e i h n = split-bool (blank e) (λ t. absurd (n (eqb-true (get_or e i 0) 0 (every_at is_zero e i 0 t h)))) (λ f. sym f)
+some_byte_is e i h n = split_bool (blank e) (λ t. absurd (n (eqb-true (get_or e i 0) 0 (every_at is_zero e i 0 t h)))) (λ f. sym f)

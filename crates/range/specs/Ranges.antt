@@ -9,7 +9,7 @@ use Rattle.std.proofs.Math.Option.{Option, some}
 use native.Mathlib.Omega.{arith}
 use Rattle.std.proofs.Math.ListN.{length, length-append}
 use Rattle.std.proofs.lemmas.List.{take-append-le}
-use Rattle.laws.specs.Choice.{also, also_left, also_right, also_both, cond-some}
+use Rattle.laws.specs.Choice.{also, also_left, also_right, also_both, cond_some}
 use Rattle.laws.specs.Fold.{sum, every, Each, every_append, sum_append}
 use Rattle.laws.specs.Cut.{flat, lengths, flat_append, lengths_append}
 use Rattle.laws.specs.Bytes.{is_byte, Bytes}
@@ -111,11 +111,11 @@ module _ (w most : ℕ) where
   -- bytes that parse, and their entries, out of the option and into it
   pub parse_all_parses : (xs : List ℕ) (es : List Entry) → parse_all_at w most xs ≡ some es → all_parse_at w most xs ≡ true
   unfolding parse_all_at
-  parse_all_parses xs es e = (cond-some (all_parse_at w most xs) (all_entries_at w xs) es e).0
+  parse_all_parses xs es e = (cond_some (all_parse_at w most xs) (all_entries_at w xs) es e).0
 
   pub parse_all_entries : (xs : List ℕ) (es : List Entry) → parse_all_at w most xs ≡ some es → all_entries_at w xs ≡ es
   unfolding parse_all_at
-  parse_all_entries xs es e = (cond-some (all_parse_at w most xs) (all_entries_at w xs) es e).1
+  parse_all_entries xs es e = (cond_some (all_parse_at w most xs) (all_entries_at w xs) es e).1
 
   pub parse_all_some : (xs : List ℕ) → all_parse_at w most xs ≡ true → parse_all_at w most xs ≡ some (all_entries_at w xs)
   unfolding parse_all_at

@@ -7,7 +7,7 @@ use mathlib.Core.List.{List, [], ◌∷◌, ◌++◌, append_assoc}
 use Rattle.std.proofs.Math.Option.{Option, some}
 use Rattle.std.proofs.Math.ListN.{length, length-drop}
 use Rattle.std.proofs.Math.Seq.{length-take-le}
-use Rattle.laws.specs.Choice.{also_left, also_right, also_both, cond-some}
+use Rattle.laws.specs.Choice.{also_left, also_right, also_both, cond_some}
 use Rattle.laws.specs.Fold.{sum, every, every_append, every_take, every_drop, every_replicate}
 use Rattle.laws.specs.Part.{length_part, part_then}
 use Rattle.laws.specs.Digits.{is_digit}
@@ -184,11 +184,11 @@ module _ (w most : ℕ) (xs : List ℕ) (s : Shape w most xs) where
 module _ (w most : ℕ) (xs : List ℕ) (es : List Entry) (e : parse_at w most xs ≡ some es) where
   pub parse_parses : parses_at w most xs ≡ true
   unfolding parse_at
-  parse_parses = (cond-some (parses_at w most xs) (entries_at w xs) es e).0
+  parse_parses = (cond_some (parses_at w most xs) (entries_at w xs) es e).0
 
   pub parse_entries : entries_at w xs ≡ es
   unfolding parse_at
-  parse_entries = (cond-some (parses_at w most xs) (entries_at w xs) es e).1
+  parse_entries = (cond_some (parses_at w most xs) (entries_at w xs) es e).1
 
   pub parse_good : Good most es
   parse_good = rw parse_entries at (good_entries_at w most xs (shape_facts w most xs parse_parses))

@@ -21,7 +21,7 @@ pub record Shape (w most : ℕ) (xs : List ℕ) : Type 0 where
   -- these follow
   pub head_in : head_size ≤ length xs
   pub lengths_in : head_size + entry_count xs * w ≤ length xs
-  pub bodies_in : used_in w xs ≤ length xs
+  pub bodies_in_is : used_in w xs ≤ length xs
 
 module _ (w most : ℕ) (xs : List ℕ) where
   pub shape_of : length xs ≡ block_count xs * block_size → 1 ≤ entry_count xs → entry_count xs ≤ most_entries → every (ok_length most) (lengths_at w xs) ≡ true
@@ -36,7 +36,7 @@ module _ (w most : ℕ) (xs : List ℕ) where
         zeros = z;
         head_in = omega arith;
         lengths_in = omega arith;
-        bodies_in = omega arith;
+        bodies_in_is = omega arith;
       }
 
   pub shape_facts : parses_at w most xs ≡ true → Shape w most xs

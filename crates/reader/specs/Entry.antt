@@ -7,7 +7,7 @@ use mathlib.Core.List.{List, []}
 use native.Mathlib.Omega.{arith}
 use Rattle.std.proofs.Math.ListN.{length, get_or}
 use borrow.Author.Tests.{lt-ltb, le-ltb, ltb-true}
-use Rattle.laws.specs.Choice.{ask, and_then, unless, and_then_left, and_then_right, and_then_first, and_then_both, ask_yes, ask_holds, ask_fails, not_so, unless-done}
+use Rattle.laws.specs.Choice.{ask, and_then, unless, and_then_left, and_then_right, and_then_first, and_then_both, ask_yes, ask_holds, ask_fails, not_so, unless_done}
 use Rattle.laws.specs.Fold.{sum, sum_split}
 use Rattle.range.specs.Form.{most_entry_length, length_width, head_size, entry_count, lengths_at, entries, parses}
 use Rattle.range.specs.Shape.{Shape, shape_facts, length_entries_at, lengths_at_one_take, lengths_at_one_at, entry_part, entry_in}
@@ -68,7 +68,7 @@ module _ (xs : List ℕ) (i : ℕ) where
         let h = entry_index in
         let n : z - a ≡ get_or xs (head_size + i) 0 = omega arith in
         entry_part length_width xs i a (z - a) h p (n ∙ sym (lengths_at_one_at xs i (omega arith) h))
-        ∙ sym (unless-done (ask_entry xs i) [] (get_or (entries xs) i []) e)
+        ∙ sym (unless_done (ask_entry xs i) [] (get_or (entries xs) i []) e)
 
 -- the start in a reader's own sum, and that a body lies within the bytes
 module _ (xs : List ℕ) (i : ℕ) (s : Shape length_width most_entry_length xs) where

@@ -7,7 +7,7 @@ use Rattle.std.proofs.Common.{◌∙◌, arith, length-take}
 use mathlib.Core.List.{List}
 use Rattle.std.proofs.Math.ListN.{length, take}
 use Rattle.std.proofs.Math.Seq.{take_all, length-take-le}
-use Rattle.laws.specs.Choice.{ask, not_so, false-true, ruin}
+use Rattle.laws.specs.Choice.{ask, not_so, false_true, ruin}
 use Rattle.laws.specs.Part.{part_of_front, drop_take}
 use Rattle.laws.specs.Fold.{sum, every}
 use Rattle.laws.specs.Cut.{flat, lengths, flat_cut}
@@ -137,7 +137,7 @@ module _ (xs : List ℕ) (c : Contents) (hc : c ≡ contents_of xs) where
       let s = shape xs p in
       let w = front_read xs p c hc in
       let u : used length_width c.entries c.bytes ≡ used_in length_width (front_range xs) = omega (arith, same_count xs p, ap sum (front_lengths xs p)) in
-      false-true
+      false_true
       (sym h
       ∙ counts_yes c
       (record {
@@ -176,7 +176,7 @@ module _ (xs : List ℕ) (c : Contents) (hc : c ≡ contents_of xs) where
           hq ∙ ap (every (ok_length most_entry_length)) (lengths_part xs c.entries w.count w.within ∙ sym lengths_same)
 
       pub front_bad_length : q ≡ false → front.Nothing ≡ front_of xs
-      front_bad_length h = front_no (λ p. false-true (sym (sym each ∙ h) ∙ (shape xs p).each))
+      front_bad_length h = front_no (λ p. false_true (sym (sym each ∙ h) ∙ (shape xs p).each))
 
       module _ (z : Bool)
           (hz : z ≡ every is_zero (take (c.blocks * block_size - (head_size + c.entries + c.bytes)) (drop (head_size + c.entries + c.bytes) xs))) where
@@ -189,7 +189,7 @@ module _ (xs : List ℕ) (c : Contents) (hc : c ≡ contents_of xs) where
             ∙ (λ i. every is_zero (drop (sym used_same i) (take (e i) xs)))
 
         pub front_nonzero : z ≡ false → front.Nothing ≡ front_of xs
-        front_nonzero h = front_no (λ p. false-true (sym (sym zeros ∙ h) ∙ (shape xs p).zeros))
+        front_nonzero h = front_no (λ p. false_true (sym (sym zeros ∙ h) ∙ (shape xs p).zeros))
 
         pub front_yes : q ≡ true → z ≡ true → front.Range c ≡ front_of xs
         unfolding front_of
@@ -253,7 +253,7 @@ module _ (xs : List ℕ) where
   pub scan_none : front.Nothing ≡ front_of xs → scan.Refused 7 ≡ scanned (ask 7 (parses xs)) (entries xs)
   scan_none h =
       scan_not
-      (λ s. false-true (sym (front_none xs h) ∙ ap parses (whole_front xs s) ∙ shape_yes length_width most_entry_length xs s))
+      (λ s. false_true (sym (front_none xs h) ∙ ap parses (whole_front xs s) ∙ shape_yes length_width most_entry_length xs s))
 
   module _ (c : Contents) (h : front.Range c ≡ front_of xs) where
     pub scan_short : (length xs ≡ c.blocks * block_size → ⊥) → scan.Refused 7 ≡ scanned (ask 7 (parses xs)) (entries xs)

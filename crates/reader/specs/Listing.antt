@@ -3,7 +3,7 @@
 use Rattle.std.specs.Prelude.{ℕ, zero, suc, ◌+◌, ◌*◌, ◌≤◌, ◌<◌, ◌≡◌, List, [], ◌∷◌, length, take, drop, get_or, set, eqb}
 use Rattle.std.proofs.Math.Path.{refl}
 use Rattle.std.proofs.Common.{sym, ◌∙◌, ap, zero-add, add-zero, add_assoc, arith, take_all, eq-eqb, ne_eqb}
-use Rattle.laws.specs.Choice.{ask, and_then, unless, unless-kept, unless-done}
+use Rattle.laws.specs.Choice.{ask, and_then, unless, unless_kept, unless_done}
 use Rattle.laws.specs.Splice.{splice, copy_turn}
 use Rattle.laws.specs.Fold.{sum, sum_take_step}
 use Rattle.range.specs.Form.{most_entries, most_entry_length, length_width, head_size, entry_count, lengths_at, entries_at, entries, parses}
@@ -94,9 +94,9 @@ module _ (xs starts : List ℕ) where
     pub list_kept : (n : ℕ) (new : List ℕ) → r ≡ count.Refused n → starts ≡ unless (ask_list xs starts) starts new
     list_kept n new e =
         let f = counted_refused (ask 7 (parses xs)) n (length (entries xs)) (sym e ∙ hr) in
-        sym (ap (λ (q : ℕ). unless q starts new) asked ∙ unless-kept (ask 7 (parses xs)) starts new f.1)
+        sym (ap (λ (q : ℕ). unless q starts new) asked ∙ unless_kept (ask 7 (parses xs)) starts new f.1)
 
     pub list_done : (n : ℕ) (x new : List ℕ) → r ≡ count.Entries n → x ≡ new → x ≡ unless (ask_list xs starts) starts new
     list_done n x new e k =
         let f = counted_entries (ask 7 (parses xs)) n (length (entries xs)) (sym e ∙ hr) in
-        k ∙ sym (ap (λ (q : ℕ). unless q starts new) asked ∙ unless-done (ask 7 (parses xs)) starts new f.0)
+        k ∙ sym (ap (λ (q : ℕ). unless q starts new) asked ∙ unless_done (ask 7 (parses xs)) starts new f.0)

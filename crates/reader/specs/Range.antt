@@ -5,7 +5,7 @@ use Rattle.std.proofs.Common.{sym, ◌∙◌, ap, le-leb, eq-eqb, leb-true, eqb-
 use native.Mathlib.Omega.{arith}
 use Rattle.std.proofs.Math.ListN.{length}
 use Rattle.std.proofs.lemmas.Bool.{lt-leb}
-use Rattle.laws.specs.Choice.{by-leb, also, ask, ask_yes, also_left, also_right, also_both}
+use Rattle.laws.specs.Choice.{by_leb, also, ask, ask_yes, also_left, also_right, also_both}
 use Rattle.laws.specs.Fold.{sum, sum_bound}
 use Rattle.range.specs.Form.{most_entries, most_entry_length, length_width, head_size, used, blocks_for, block_count, entry_count, lengths_at, entries, parses}
 use Rattle.laws.specs.Bytes.{Bytes, bytes_at}
@@ -69,7 +69,7 @@ module _ (xs : List ℕ) where
   pub contents_small : Bytes xs → Small (contents_of xs)
   unfolding contents_of
   contents_small bs =
-      by-leb Small (head_size + entry_count xs * length_width) (length xs) (said xs) nothing
+      by_leb Small (head_size + entry_count xs * length_width) (length xs) (said xs) nothing
       (λ l.
       let n : length (lengths_at length_width xs) ≡ entry_count xs = length_lengths_at length_width xs in
       record {
@@ -85,14 +85,14 @@ module _ (xs : List ℕ) where
   pub contents_said : 1 ≤ (contents_of xs).blocks + (contents_of xs).entries → Said xs (contents_of xs)
   unfolding contents_of
   contents_said =
-      by-leb (λ (c : Contents). 1 ≤ c.blocks + c.entries → Said xs c) (head_size + entry_count xs * length_width) (length xs) (said xs) nothing
+      by_leb (λ (c : Contents). 1 ≤ c.blocks + c.entries → Said xs c) (head_size + entry_count xs * length_width) (length xs) (said xs) nothing
       (λ l h. record { blocks = refl; count = refl; bytes = refl; within = omega arith })
       (λ l h. absurd (omega arith))
 
   pub contents_whole : head_size + entry_count xs * length_width ≤ length xs → Said xs (contents_of xs)
   unfolding contents_of
   contents_whole h =
-      by-leb (Said xs) (head_size + entry_count xs * length_width) (length xs) (said xs) nothing
+      by_leb (Said xs) (head_size + entry_count xs * length_width) (length xs) (said xs) nothing
       (λ l. record { blocks = refl; count = refl; bytes = refl; within = omega arith })
       (λ l. absurd (omega arith))
 

@@ -32,14 +32,14 @@ unfoldable pub ask_advance_log : Geometry → Ready → ℕ
 ask_advance_log g r =
     ask 6
     (also (may_commit r)
-    (leb r.written_journal_len (num_journal_blocks g)))
+    (leb r.writtenJournalLen (num_journal_blocks g)))
 
 unfoldable pub advanced_log : Ready → Superblock
 advanced_log r =
     record {
       counter = increment_superblock_counter r.superblock.counter;
       journalStart = r.superblock.journalStart;
-      journalLen = r.written_journal_len;
+      journalLen = r.writtenJournalLen;
       indirectionTableLoc = r.superblock.indirectionTableLoc;
     }
 
@@ -53,18 +53,18 @@ advance_log_next r id new = with_commit r (CommitAdvanceLog id new)
 unfoldable pub ask_advance_location : Geometry → Ready → ℕ
 ask_advance_location g r =
     ask 6
-    (also (also (also (also (is_received r.frozen.frozen_loc)
+    (also (also (also (also (is_received r.frozen.frozenLoc)
     (may_commit r))
     (ltb r.superblock.journalStart (num_journal_blocks g)))
-    (leb r.frozen.frozen_journal_position r.written_journal_len))
-    (leb r.written_journal_len (num_journal_blocks g)))
+    (leb r.frozen.frozenJournalPosition r.writtenJournalLen))
+    (leb r.writtenJournalLen (num_journal_blocks g)))
 
 unfoldable pub advanced_location : Geometry → Ready → Location → Superblock
 advanced_location g r loc =
     record {
       counter = increment_superblock_counter r.superblock.counter;
-      journalStart = journal_pos_add g r.superblock.journalStart r.frozen.frozen_journal_position;
-      journalLen = r.written_journal_len - r.frozen.frozen_journal_position;
+      journalStart = journal_pos_add g r.superblock.journalStart r.frozen.frozenJournalPosition;
+      journalLen = r.writtenJournalLen - r.frozen.frozenJournalPosition;
       indirectionTableLoc = loc;
     }
 
@@ -73,7 +73,7 @@ to_location g r NoLocation = new.Refused 6
 to_location g r (Received loc) = new_superblock (ask_advance_location g r) (advanced_location g r loc)
 
 unfoldable pub advance_location : Geometry → Ready → NewSuperblock
-advance_location g r = to_location g r r.frozen.frozen_loc
+advance_location g r = to_location g r r.frozen.frozenLoc
 
 abbrev pub advance_location_next : Ready → ℕ → Superblock → Ready
 advance_location_next r id new = with_commit r (CommitAdvanceLocation id new)
@@ -83,8 +83,8 @@ unfoldable pub log_committed : Ready → Superblock → Ready
 log_committed r new =
     record {
       superblock = new;
-      which_superblock = commit_slot r;
-      written_journal_len = r.written_journal_len;
+      whichSuperblock = commit_slot r;
+      writtenJournalLen = r.writtenJournalLen;
       frozen = r.frozen;
       commit = CommitNone;
       entries = r.entries;
@@ -95,8 +95,8 @@ unfoldable pub location_committed : Ready → Superblock → Ready
 location_committed r new =
     record {
       superblock = new;
-      which_superblock = commit_slot r;
-      written_journal_len = r.written_journal_len - r.frozen.frozen_journal_position;
+      whichSuperblock = commit_slot r;
+      writtenJournalLen = r.writtenJournalLen - r.frozen.frozenJournalPosition;
       frozen = not_frozen;
       commit = CommitNone;
       entries = r.entries;

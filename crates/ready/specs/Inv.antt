@@ -23,30 +23,30 @@ use Rattle.ready.specs.State.{is_received, is_location, none_frozen, none_outsta
 abbrev pub most_writes : ℕ
 most_writes = 16
 
--- which_superblock is 0 or 1; written_journal_len; journalLen
+-- whichSuperblock is 0 or 1; writtenJournalLen; journalLen
 unfoldable pub extent_ok : Geometry → (which written len : ℕ) → Bool
 extent_ok g which written len =
     also (also (leb which 1)
     (leb written (num_journal_blocks g)))
     (leb len written)
 
--- is_frozen ==> ..
+-- isFrozen ==> ..
 unfoldable pub frozen_ok : Geometry → (written len : ℕ) → Frozen → Bool
 frozen_ok g written len f =
-    either (not f.is_frozen)
-    (also (also (leb f.frozen_journal_position (num_journal_blocks g))
+    either (not f.isFrozen)
+    (also (also (leb f.frozenJournalPosition (num_journal_blocks g))
     (leb len written))
-    (leb f.frozen_journal_position written))
+    (leb f.frozenJournalPosition written))
 
--- frozen_loc.Some? ==> ..
+-- frozenLoc.Some? ==> ..
 abbrev pub location_ok : Geometry → Bool → MaybeLocation → Bool
-location_ok g is_frozen NoLocation = true
-location_ok g is_frozen (Received loc) =
+location_ok g isFrozen NoLocation = true
+location_ok g isFrozen (Received loc) =
     also (valid_indirection_table_location g loc)
-    is_frozen
+    isFrozen
 
 unfoldable pub received_ok : Geometry → Frozen → Bool
-received_ok g f = location_ok g f.is_frozen f.frozen_loc
+received_ok g f = location_ok g f.isFrozen f.frozenLoc
 
 -- commit_status.CommitAdvanceLog? ==> ..
 unfoldable pub advance_log_ok : ℕ → Superblock → Superblock → Bool
@@ -58,17 +58,17 @@ advance_log_ok written superblock new =
 -- commit_status.CommitAdvanceLocation? ==> ..
 unfoldable pub advance_location_ok : Geometry → ℕ → Frozen → Superblock → Superblock → Bool
 advance_location_ok g written f superblock new =
-    also (also (also (also f.is_frozen
-    (is_received f.frozen_loc))
-    (eqb new.journalStart (journal_pos_add g superblock.journalStart f.frozen_journal_position)))
-    (eqb new.journalLen (written - f.frozen_journal_position)))
-    (leb (f.frozen_journal_position + new.journalLen) written)
+    also (also (also (also f.isFrozen
+    (is_received f.frozenLoc))
+    (eqb new.journalStart (journal_pos_add g superblock.journalStart f.frozenJournalPosition)))
+    (eqb new.journalLen (written - f.frozenJournalPosition)))
+    (leb (f.frozenJournalPosition + new.journalLen) written)
 
 -- new_superblock.Some? ==> ..
 unfoldable pub new_location_ok : Frozen → Superblock → Superblock → Bool
 new_location_ok f superblock new =
     either (same_location new.indirectionTableLoc superblock.indirectionTableLoc)
-    (is_location f.frozen_loc new.indirectionTableLoc)
+    (is_location f.frozenLoc new.indirectionTableLoc)
 
 unfoldable pub new_ok : Geometry → Ready → Superblock → Bool
 new_ok g r new =
@@ -81,10 +81,10 @@ new_ok g r new =
 abbrev pub in_flight_ok : Geometry → Ready → Commit → Bool
 in_flight_ok g r CommitNone = true
 in_flight_ok g r (CommitAdvanceLog id new) =
-    also (advance_log_ok r.written_journal_len r.superblock new)
+    also (advance_log_ok r.writtenJournalLen r.superblock new)
     (new_ok g r new)
 in_flight_ok g r (CommitAdvanceLocation id new) =
-    also (advance_location_ok g r.written_journal_len r.frozen r.superblock new)
+    also (advance_location_ok g r.writtenJournalLen r.frozen r.superblock new)
     (new_ok g r new)
 
 unfoldable pub commit_ok : Geometry → Ready → Bool
@@ -92,19 +92,19 @@ commit_ok g r = in_flight_ok g r r.commit
 
 -- in_memory_journal_frozen != [] ==> ..
 unfoldable pub some_frozen_ok : (written position : ℕ) → Bool → Entries → Bool
-some_frozen_ok written position is_frozen e =
+some_frozen_ok written position isFrozen e =
     either (none_frozen e)
     (also (eqb position written)
-    is_frozen)
+    isFrozen)
 
 unfoldable pub inv_ok : Geometry → Ready → Bool
 inv_ok g r =
-    also (also (also (also (also (extent_ok g r.which_superblock r.written_journal_len r.superblock.journalLen)
-    (frozen_ok g r.written_journal_len r.superblock.journalLen r.frozen))
+    also (also (also (also (also (extent_ok g r.whichSuperblock r.writtenJournalLen r.superblock.journalLen)
+    (frozen_ok g r.writtenJournalLen r.superblock.journalLen r.frozen))
     (received_ok g r.frozen))
     (wf_superblock g r.superblock))
     (commit_ok g r))
-    (some_frozen_ok r.written_journal_len r.frozen.frozen_journal_position r.frozen.is_frozen r.entries)
+    (some_frozen_ok r.writtenJournalLen r.frozen.frozenJournalPosition r.frozen.isFrozen r.entries)
 
 -- what the record adds: frozen within pending, taken within replay; the outstanding writes are a table
 unfoldable pub entries_ok : Entries → Bool

@@ -29,7 +29,7 @@ may_write g r entries =
     also (also (also (no_commit r.commit)
     (ltb 0 entries))
     (ltb r.superblock.journalStart (num_journal_blocks g)))
-    (leb r.written_journal_len (num_journal_blocks g))
+    (leb r.writtenJournalLen (num_journal_blocks g))
 
 -- question 8: of the ids that are new to the set, and of the blocks
 abbrev pub ask_second : IdTable → ℕ → MaybeId → ℕ
@@ -43,7 +43,7 @@ ask_ids writes id1 id2 =
 
 unfoldable pub ask_room : Geometry → Ready → ℕ → MaybeId → ℕ → ℕ
 ask_room g r id1 id2 blocks =
-    and_then (ask 8 (leb (blocks + r.written_journal_len) (num_journal_blocks g)))
+    and_then (ask 8 (leb (blocks + r.writtenJournalLen) (num_journal_blocks g)))
     (ask_ids r.writes id1 id2)
 
 unfoldable pub ask_write_back_journal_req : Geometry → Ready → ℕ → MaybeId → Bodies → ℕ
@@ -58,9 +58,9 @@ journal_write q start blocks written = cond (eqb q 0) (write.Range start blocks 
 unfoldable pub write_back_journal_req : Geometry → Ready → ℕ → MaybeId → Bodies → JournalWrite
 write_back_journal_req g r id1 id2 b =
     journal_write (ask_write_back_journal_req g r id1 id2 b)
-    (journal_pos_add g r.superblock.journalStart r.written_journal_len)
+    (journal_pos_add g r.superblock.journalStart r.writtenJournalLen)
     (sent_blocks r b)
-    (r.written_journal_len + sent_blocks r b)
+    (r.writtenJournalLen + sent_blocks r b)
 
 -- outstanding_journal_writes + (if id2.Some? then {id1, id2.value} else {id1})
 abbrev pub joined_ids : IdTable → ℕ → MaybeId → IdTable
@@ -72,14 +72,14 @@ unfoldable pub written_entries : Entries → Entries
 written_entries e = counts (cond (none_frozen e) 0 (e.pending - e.frozen)) 0 e.replay e.taken
 
 unfoldable pub written_frozen : Bool → ℕ → Frozen → Frozen
-written_frozen none written f = frozen_at f.is_frozen (cond none f.frozen_journal_position written) f.frozen_loc
+written_frozen none written f = frozen_at f.isFrozen (cond none f.frozenJournalPosition written) f.frozenLoc
 
 unfoldable pub write_back_journal_req_next : Ready → ℕ → MaybeId → ℕ → Ready
 write_back_journal_req_next r id1 id2 written =
     record {
       superblock = r.superblock;
-      which_superblock = r.which_superblock;
-      written_journal_len = written;
+      whichSuperblock = r.whichSuperblock;
+      writtenJournalLen = written;
       frozen = written_frozen (none_frozen r.entries) written r.frozen;
       commit = r.commit;
       entries = written_entries r.entries;

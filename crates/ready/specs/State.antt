@@ -15,7 +15,7 @@ use Rattle.ready.specs.declared.Entries.{Entries}
 use Rattle.ready.specs.declared.Bodies.{Bodies}
 use Rattle.ready.specs.declared.Ready.{Ready}
 
--- frozen_loc.Some?, frozen_loc == Some(loc)
+-- frozenLoc.Some?, frozenLoc == Some(loc)
 abbrev pub is_received : MaybeLocation → Bool
 is_received NoLocation = false
 is_received (Received loc) = true
@@ -53,9 +53,9 @@ replay_left e = e.replay - e.taken.entries
 abbrev pub none_outstanding : Ready → Bool
 none_outstanding r = eqb r.writes.count 0
 
--- if which_superblock == 0 then 1 else 0
+-- if whichSuperblock == 0 then 1 else 0
 abbrev pub commit_slot : Ready → ℕ
-commit_slot r = cond (eqb r.which_superblock 0) 1 0
+commit_slot r = cond (eqb r.whichSuperblock 0) 1 0
 
 abbrev pub count : ℕ → ℕ → Count
 count entries bytes = record { entries = entries; bytes = bytes }
@@ -69,19 +69,19 @@ left e b = count (e.pending - (sent e b).entries) (b.pending - (sent e b).bytes)
 
 -- s.(f := x)
 abbrev pub with_frozen : Ready → Frozen → Ready
-with_frozen r x = record { superblock = r.superblock; which_superblock = r.which_superblock; written_journal_len = r.written_journal_len; frozen = x; commit = r.commit; entries = r.entries; writes = r.writes }
+with_frozen r x = record { superblock = r.superblock; whichSuperblock = r.whichSuperblock; writtenJournalLen = r.writtenJournalLen; frozen = x; commit = r.commit; entries = r.entries; writes = r.writes }
 
 abbrev pub with_commit : Ready → Commit → Ready
-with_commit r x = record { superblock = r.superblock; which_superblock = r.which_superblock; written_journal_len = r.written_journal_len; frozen = r.frozen; commit = x; entries = r.entries; writes = r.writes }
+with_commit r x = record { superblock = r.superblock; whichSuperblock = r.whichSuperblock; writtenJournalLen = r.writtenJournalLen; frozen = r.frozen; commit = x; entries = r.entries; writes = r.writes }
 
 abbrev pub with_entries : Ready → Entries → Ready
-with_entries r x = record { superblock = r.superblock; which_superblock = r.which_superblock; written_journal_len = r.written_journal_len; frozen = r.frozen; commit = r.commit; entries = x; writes = r.writes }
+with_entries r x = record { superblock = r.superblock; whichSuperblock = r.whichSuperblock; writtenJournalLen = r.writtenJournalLen; frozen = r.frozen; commit = r.commit; entries = x; writes = r.writes }
 
 abbrev pub with_writes : Ready → IdTable → Ready
-with_writes r x = record { superblock = r.superblock; which_superblock = r.which_superblock; written_journal_len = r.written_journal_len; frozen = r.frozen; commit = r.commit; entries = r.entries; writes = x }
+with_writes r x = record { superblock = r.superblock; whichSuperblock = r.whichSuperblock; writtenJournalLen = r.writtenJournalLen; frozen = r.frozen; commit = r.commit; entries = r.entries; writes = x }
 
 abbrev pub frozen_at : Bool → ℕ → MaybeLocation → Frozen
-frozen_at is_frozen position loc = record { is_frozen = is_frozen; frozen_journal_position = position; frozen_loc = loc }
+frozen_at isFrozen position loc = record { isFrozen = isFrozen; frozenJournalPosition = position; frozenLoc = loc }
 
 abbrev pub not_frozen : Frozen
 not_frozen = frozen_at false 0 NoLocation
@@ -94,8 +94,8 @@ unfoldable pub loaded : Superblock → ℕ → ℕ → Ready
 loaded superblock which replay =
     record {
       superblock = superblock;
-      which_superblock = which;
-      written_journal_len = superblock.journalLen;
+      whichSuperblock = which;
+      writtenJournalLen = superblock.journalLen;
       frozen = not_frozen;
       commit = CommitNone;
       entries = counts 0 0 replay (count 0 0);

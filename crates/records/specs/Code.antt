@@ -6,11 +6,11 @@ use Rattle.laws.specs.Choice.{and_then, and_then_left}
 use Rattle.layout.specs.declared.Geometry.{Geometry}
 use Rattle.layout.specs.declared.Location.{Location}
 use Rattle.interval.specs.Facts.{ValidJournalInterval}
-use Rattle.interval.specs.Journal.{CyclicSlice, full_range}
+use Rattle.interval.specs.Journal.{cyclic_slice, full_range}
 use Rattle.superblock.specs.declared.MaybeSuperblock.{MaybeSuperblock}
 use Rattle.journal.specs.Memory.{ask_marks, ask_readable}
 use Rattle.journal.specs.Asked.{asked_journal, readable_asked}
-use Rattle.journal.specs.Cells.{block_at, cells, length_cells, full_marks}
+use Rattle.journal.specs.Cells.{block_at, cells, length_cells, full_marks_is}
 use Rattle.codec.specs.Format.{format}
 use Rattle.source.specs.JournalCache as M
 use Rattle.source.specs.JournalSystem as Y
@@ -18,17 +18,17 @@ use Rattle.source.specs.JournalSystem.{superblock_of_disk}
 use Rattle.source.specs.Limits.{limits}
 use Rattle.history.specs.Ledger.{begin, books}
 use Rattle.history.specs.Statement.{Trace, Ran}
-use Rattle.history.specs.Journal.Slots.{bit}
-use Rattle.history.specs.Loads.Superblocks.{resting}
-use Rattle.history.specs.Whole.First.{first_parity, init_sim}
-use Rattle.history.specs.Whole.Lists.{sim_run}
-use Rattle.history.specs.Whole.Stores.{ran_trace}
+use Rattle.history.proofs.Journal.Slots.{bit}
+use Rattle.history.proofs.Loads.Superblocks.{resting}
+use Rattle.history.proofs.Whole.First.{first_parity, init_sim}
+use Rattle.history.proofs.Whole.Lists.{sim_run}
+use Rattle.history.proofs.Whole.Stores.{ran_trace}
 use Rattle.sector.specs.Sector.{sector_size}
 use Rattle.image.specs.declared.Choice.{Choice}
 use Rattle.image.specs.Image.{Lent, slot_read, superblock1, superblock2, interval_of, selected, ask_lent, chosen, unmarked, marked, ask_record, image_of}
 use Rattle.image.specs.Written.{first_written, second_written, blocks_written}
 use Rattle.image.specs.Asked.{SlotsAsked, selected_formed}
-use Rattle.image.specs.Found.{chosen_record, marked_record}
+use Rattle.image.proofs.FoundLaws.{chosen_record, marked_record}
 use Rattle.machine.specs.declared.Kind.TheVariants as kind
 use Rattle.requests.specs.declared.Slots.{Slots}
 use Rattle.store.specs.Lent as store
@@ -74,7 +74,7 @@ pub code_load_tells : (g : Geometry) (first : Y.Variables) (loc : Location) (i :
     → Ran (code_store g) s calls answers t → (state_seen g t).machine ≡ M.Variables.LoadingSuperblock M.initial
     → (loading : List Made) (loaded : List Bool) (u : State) → Ran (code_store g) t loading loaded u → OnlyOfLoad (map (code_store g).call loading) loaded → u.store.machine.kind ≡ kind.Ready
     → let k = kept_by g first loc i (books g format (begin (superblock_of_disk g first.disk i.wf)) (map (code_store g).call calls) answers) in
-    (u.store.machine.ready.superblock ≡ k.superblock) × (u.store.machine.ready.which_superblock ≡ bit k.which_superblock) × (replay_of u ≡ k.replay_journal)
+    (u.store.machine.ready.superblock ≡ k.superblock) × (u.store.machine.ready.whichSuperblock ≡ bit k.whichSuperblock) × (replay_of u ≡ k.replay_journal)
 code_load_tells g first loc i s calls answers t e h m loading loaded u load only k =
     let q = work_seen g (machine_lent u.lent) u.store.machine k in
     let z =
@@ -82,7 +82,7 @@ code_load_tells g first loc i s calls answers t e h m loading loaded u load only
     (subst (λ (y : Y.Variables). Trace g format limits y (map (code_store g).call calls) answers (state_seen g t)) e (ran_trace g format limits (code_store g) s calls answers t h)) m
     (state_seen g u) (map (code_store g).call loading) loaded (ready_seen u) (ran_trace g format limits (code_store g) t loading loaded u load) only q in (
       z.0,
-      sym (slot_number u.store.machine.ready.which_superblock (work_form g (machine_lent u.lent) u.store.machine k (loaded_formed g t u loading loaded (ready_seen u) m load q).machine).which_in) ∙ ap bit z.1,
+      sym (slot_number u.store.machine.ready.whichSuperblock (work_form g (machine_lent u.lent) u.store.machine k (loaded_formed g t u loading loaded (ready_seen u) m load q).machine).which_in) ∙ ap bit z.1,
       z.2,
     )
 
@@ -122,8 +122,8 @@ code_record_brings g disk l m slots ml dl bytes pic held =
         let f = selected_formed g (superblock1 disk) (superblock2 disk) asked.first_formed asked.second_formed in
         record { start_in = f.start_in; len_in = f.len_in }
 
-    full : full_range (CyclicSlice g (cells g m.blocks m.marks) (interval_of (selected disk))) ≡ true
-    full = full_marks g (interval_of (selected disk)) valid m.blocks dl.blocks_right.size m.marks dl.marks_right.size ∙ readable_asked (interval_of (selected disk)) m.marks yes.1
+    full : full_range (cyclic_slice g (cells g m.blocks m.marks) (interval_of (selected disk))) ≡ true
+    full = full_marks_is g (interval_of (selected disk)) valid m.blocks dl.blocks_right.size m.marks dl.marks_right.size ∙ readable_asked (interval_of (selected disk)) m.marks yes.1
 
     rest_pictured : Pictures g disk (resting (state_seen g s).disk.superblocks (state_seen g s).disk.journal)
     rest_pictured = let p = store_pictured g disk s pic in record { first = p.first; second = p.second; blocks = p.blocks }

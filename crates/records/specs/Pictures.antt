@@ -23,9 +23,9 @@ use Rattle.source.specs.JournalSystem as Y
 use Rattle.source.specs.Limits.{limits}
 use Rattle.history.specs.Ledger.{Call, write_journal, journal_written, commit_log, commit_location, superblock_written, read_journal, journal_read, read_superblock, superblock_read, finish_superblocks, finish_other, freeze, receive, add, replay, push_sync, pop_sync, no_op, ask_again, land, crash, nonsense}
 use Rattle.history.specs.Statement.{Trace, OnlyLoads}
-use Rattle.history.specs.Journal.Slots.{bit}
-use Rattle.history.specs.Loads.Comes.{taken}
-use Rattle.history.specs.Loads.Superblocks.{resting}
+use Rattle.history.proofs.Journal.Slots.{bit}
+use Rattle.history.proofs.Loads.Comes.{taken}
+use Rattle.history.proofs.Loads.Superblocks.{resting}
 
 -- Bytes picture a disk: what a slot's sector says, where it says anything, is what the slot holds; what lies in the place of a block that can be
 -- read is the block. In the place of one that can't be read anything may lie.
@@ -75,7 +75,7 @@ OnlyOfLoad (x ∷ xs) (b ∷ bs) = (b ≡ true → of_load x ≡ true) × OnlyOf
 -- bytes these have; and replay memory begins with their bytes, and with their lengths.
 
 abbrev pub shown_by : M.ReadyVariables → Recorded
-shown_by r = recorded.Held r.superblock (bit r.which_superblock) (length r.replay_journal) (sum (lengths r.replay_journal))
+shown_by r = recorded.Held r.superblock (bit r.whichSuperblock) (length r.replay_journal) (sum (lengths r.replay_journal))
 
 pub record RecordIs (g : Geometry) (disk : List ℕ) (c : Choice) (l : Lent) (r : M.ReadyVariables) : Type 0 where
   pub answer : record_of g disk c ≡ shown_by r

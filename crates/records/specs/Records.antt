@@ -8,7 +8,7 @@ use Rattle.laws.specs.Cut.{flat}
 use Rattle.laws.specs.Sets.{Two}
 use Rattle.layout.specs.declared.Geometry.{Geometry}
 use Rattle.layout.specs.declared.Location.{Location}
-use Rattle.interval.specs.Journal.{JournalBlock, CyclicSlice, full_range}
+use Rattle.interval.specs.Journal.{JournalBlock, cyclic_slice, full_range}
 use Rattle.superblock.specs.declared.Superblock.{Superblock}
 use Rattle.codec.specs.Codec.{Sized}
 use Rattle.codec.specs.Format.{format}
@@ -20,12 +20,12 @@ use Rattle.source.specs.Limits.{limits}
 use Rattle.history.specs.Ledger.{Call, Ledger, begin, books, shown}
 use Rattle.history.specs.Statement.{Trace, ready_by, slot_by}
 use Rattle.history.specs.Earlier.{TraceEver}
-use Rattle.history.specs.Journal.Slots.{slot_parity}
-use Rattle.history.specs.Loads.Superblocks.{resting}
-use Rattle.history.specs.Simulation.Relation.{super_of, Sim}
-use Rattle.history.specs.Whole.Ever.{past_sim}
-use Rattle.history.specs.Whole.First.{first_parity, init_sim}
-use Rattle.history.specs.Whole.Lists.{sim_run}
+use Rattle.history.proofs.Journal.Slots.{slot_parity}
+use Rattle.history.proofs.Loads.Superblocks.{resting}
+use Rattle.history.proofs.Simulation.Relation.{super_of, Sim}
+use Rattle.history.proofs.Whole.Ever.{past_sim}
+use Rattle.history.proofs.Whole.First.{first_parity, init_sim}
+use Rattle.history.proofs.Whole.Lists.{sim_run}
 use Rattle.image.specs.Image.{Lent, selected, interval_of, ask_lent, chosen, unmarked, ask_record}
 use Rattle.image.specs.Asked.{image_asked}
 use Rattle.records.specs.Pictures.{Pictures, OnlyOfLoad, RecordIs, Brought}
@@ -35,9 +35,9 @@ use Rattle.records.specs.Proofs.Brings.{brings}
 
 -- what can be loaded is the record
 pub loadable_is : (g : Geometry) (disk : List ℕ) (l : Lent) → ask_lent g disk l ≡ 0 → (s : Y.Variables) → Pictures g disk s.disk → (r : M.ReadyVariables)
-    → Loadable g s.disk.superblocks s.disk.journal r.which_superblock r.superblock r.replay_journal → RecordIs g disk (unmarked g disk l) l r
+    → Loadable g s.disk.superblocks s.disk.journal r.whichSuperblock r.superblock r.replay_journal → RecordIs g disk (unmarked g disk l) l r
 loadable_is g disk l asked s pic r z =
-    loadable_record g disk (image_asked g (length disk) (length l.pieces) (length l.rbytes) (length l.rlens) asked).disk_size s.disk pic r.which_superblock r.superblock r.replay_journal z
+    loadable_record g disk (image_asked g (length disk) (length l.pieces) (length l.rbytes) (length l.rlens) asked).disk_size s.disk pic r.whichSuperblock r.superblock r.replay_journal z
     l (unmarked g disk l) (ap (chosen g disk) asked) r refl refl refl
 
 -- what a ledger keeps can be loaded, as the machine that shows it
@@ -46,7 +46,7 @@ module _ (g : Geometry) (first : Y.Variables) (loc : Location) (i : Y.Init g fir
   kept_by l = let v = shown format l in ready_by v (slot_by g first loc i v.counter)
 
   pub sim_loadable : (s : Y.Variables) (l : Ledger) → Sim g format (first_parity g format first loc i) s.machine s.disk l
-      → Loadable g s.disk.superblocks s.disk.journal (kept_by l).which_superblock (kept_by l).superblock (kept_by l).replay_journal
+      → Loadable g s.disk.superblocks s.disk.journal (kept_by l).whichSuperblock (kept_by l).superblock (kept_by l).replay_journal
   sim_loadable s l z =
       subst (λ (w : Bool). Loadable g s.disk.superblocks s.disk.journal w (super_of format l.kept) (flat l.kept.ranges)) slot_is
       (kept_loadable g (first_parity g format first loc i) s.disk l.kept z.slot z.disk)
@@ -87,7 +87,7 @@ pub load_tells : (g : Geometry) (first : Y.Variables) (loc : Location) (i : Y.In
     → s.machine ≡ M.Variables.LoadingSuperblock M.initial
     → (t : Y.Variables) (xs : List Call) (bs : List Bool) (r : M.ReadyVariables) → Trace g format limits s xs bs t → OnlyOfLoad xs bs → t.machine ≡ M.Variables.Ready r
     → let k = kept_by g first loc i (books g format (begin (superblock_of_disk g first.disk i.wf)) calls answers) in
-    (r.superblock ≡ k.superblock) × (r.which_superblock ≡ k.which_superblock) × (r.replay_journal ≡ k.replay_journal)
+    (r.superblock ≡ k.superblock) × (r.whichSuperblock ≡ k.whichSuperblock) × (r.replay_journal ≡ k.replay_journal)
 load_tells g first loc i calls answers s h e t xs bs r load only q =
     loadable_one g s.disk.superblocks s.disk.journal _ _ _ _ _ _ (any_load g s t xs bs r e only load q)
     (sim_loadable g first loc i s _
@@ -96,6 +96,6 @@ load_tells g first loc i calls answers s h e t xs bs r load only q =
 -- And where the record is held, on a disk at rest whose blocks in the selected interval can be read, a load brings it. (The disk's bytes are below 256, its
 -- blocks have 4,096 bytes each.)
 pub record_brings : (g : Geometry) (disk : List ℕ) (l : Lent) (slots : Two (Option Superblock)) (j : List (Option JournalBlock)) → Bytes disk → Pictures g disk (resting slots j)
-    → length j ≡ g.blocks → Sized j → full_range (CyclicSlice g j (interval_of (selected disk))) ≡ true → (ask_record g disk (unmarked g disk l)).number ≡ 0
+    → length j ≡ g.blocks → Sized j → full_range (cyclic_slice g j (interval_of (selected disk))) ≡ true → (ask_record g disk (unmarked g disk l)).number ≡ 0
     → Brought g disk (unmarked g disk l) l slots j
 record_brings g disk l slots j bytes pic size sized full held = brings g disk l slots j pic size full bytes held sized

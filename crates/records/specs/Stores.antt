@@ -43,7 +43,7 @@ replay_of s = (ready_seen s).replay_journal
 
 pub record CodeRecordIs (g : Geometry) (disk : List ℕ) (c : Choice) (l : Lent) (s : State) : Type 0 where
   pub ready : s.store.machine.kind ≡ kind.Ready
-  pub answer : record_of g disk c ≡ recorded.Held s.store.machine.ready.superblock s.store.machine.ready.which_superblock (length (replay_of s)) (sum (lengths (replay_of s)))
+  pub answer : record_of g disk c ≡ recorded.Held s.store.machine.ready.superblock s.store.machine.ready.whichSuperblock (length (replay_of s)) (sum (lengths (replay_of s)))
   pub bytes : (record_lent g disk c l).rbytes ≡ splice l.rbytes 0 (flat (replay_of s))
   pub lens : (record_lent g disk c l).rlens ≡ splice l.rlens 0 (lengths (replay_of s))
 

@@ -72,9 +72,9 @@ put_runs bytes ns d x1 x2 x3 x4 x5 c f l ec e1 e2 e3 e4 e5 =
     n4 = length-append (bytes ++ blank ++ bodies ++ check) last ∙ ap (λ (m : ℕ). length (bytes ++ blank ++ bodies ++ check) + m) (length-replicate (sector_size - (bodies_start + length ns * body_size + body_size)) 0)
 
 -- the questions as the reader asks them
-pub ask_length : (n : ℕ) (xs : List ℕ) → (length xs ≢ sector_size) → 10 ≡ ask_fields n xs
+pub ask_length_is : (n : ℕ) (xs : List ℕ) → (length xs ≢ sector_size) → 10 ≡ ask_fields n xs
 unfolding ask_fields
-ask_length n xs h = asks_no 10 (length xs == sector_size) _ (omega arith) (ne_eqb (length xs) sector_size h)
+ask_length_is n xs h = asks_no 10 (length xs == sector_size) _ (omega arith) (ne_eqb (length xs) sector_size h)
 
 module _ (bytes xs : List ℕ) (n : ℕ) (f : Fields bytes n) (whole : length xs ≡ sector_size) where
   -- where the bodies end

@@ -11,7 +11,7 @@ use Rattle.laws.specs.Digits.{is_digit}
 use Rattle.laws.specs.Fold.{every, every_take, every_drop, every_replicate, same_is, is_same}
 use Rattle.laws.specs.Bytes.{is_byte, Bytes, is_zero, zeros_are}
 use Rattle.laws.specs.LowFirst.{from_low, low_first, each_low, each_from_low, length_low_first, from_low_low_first, low_first_from_low, length_each_low, length_each_from_low, each_from_low_each_low, each_low_each_from_low}
-use Rattle.laws.specs.Part.{tab, length-tab, length_part, part_then}
+use Rattle.laws.specs.Part.{tab, length_tab, length_part, part_then}
 use Rattle.sector.specs.Sector.{sector_size, bodies_start, body_size, offset_size, body_start, contents_size, contents, check_number, sector_of, numbers_in, check_in, gap, rest, ask_fields}
 
 -- numbers of 64 bits
@@ -20,7 +20,7 @@ Words ns = every (is_digit (256 ^ 8)) ns ≡ true
 
 pub length_contents : (n : ℕ) → length (contents n) ≡ contents_size n
 unfolding contents
-length_contents n = length_each_low offset_size ((n + 1) ∷ tab (n + 1) body_start) ∙ ap (λ (m : ℕ). suc m * 2) (length-tab (n + 1) body_start) ∙ twice
+length_contents n = length_each_low offset_size ((n + 1) ∷ tab (n + 1) body_start) ∙ ap (λ (m : ℕ). suc m * 2) (length_tab (n + 1) body_start) ∙ twice
   where
     twice : suc (n + 1) * 2 ≡ contents_size n
     twice = omega arith

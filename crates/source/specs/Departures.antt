@@ -33,21 +33,21 @@ pub record WriteBackJournalReq⁺ (g : Geometry) (C : Codec) (s s' : Variables) 
 abbrev pub OtherRange : Codec → Variables → JournalRange → Type 0
 OtherRange C s jr = IsReady s (λ s. OneRange C (to_write s) jr → ⊥)
 
--- "After FinishLoadingOtherPhase frozen_journal_position is 0."
+-- "After FinishLoadingOtherPhase frozenJournalPosition is 0."
 
 pub record FinishLoadingOtherPhase⁺ (g : Geometry) (C : Codec) (s s' : Variables) (dop : DiskOp) : Type 0 where
   pub source : FinishLoadingOtherPhase g C s s' dop
-  pub position_is : IsReady s' (λ s'. s'.frozen_journal_position ≡ 0)
+  pub position_is : IsReady s' (λ s'. s'.frozenJournalPosition ≡ 0)
 
 abbrev pub OtherPosition : Variables → Type 0
-OtherPosition s' = IsReady s' (λ s'. s'.frozen_journal_position ≡ 0 → ⊥)
+OtherPosition s' = IsReady s' (λ s'. s'.frozenJournalPosition ≡ 0 → ⊥)
 
 -- "An awaited answer is always taken. An answer nobody awaits, in any kind of state, is accepted and alters nothing (NoOp)." The source
 -- lets NoOp take any answer but an awaited write's; so what is taken away is that NoOp takes an awaited read's.
 
 abbrev pub Awaited : Variables → DiskOp → Type 0
 Awaited s (RespReadSuperblockOp id which superblock) = IsLoadingSuperblock s (λ s. at s.outstanding_superblock_reads which ≡ some id)
-Awaited s (RespReadJournalOp id journal) = IsLoadingOther s (λ s. (which : Bool) × (at s.journal_reads which ≡ some id))
+Awaited s (RespReadJournalOp id journal) = IsLoadingOther s (λ s. (which : Bool) × (at s.journalReads which ≡ some id))
 Awaited s (RespWriteSuperblockOp id which) = IsReady s (λ s. s.superblock_write ≡ some id)
 Awaited s (RespWriteJournalOp id) = IsReady s (λ s. s.outstanding_journal_writes id ≡ true)
 Awaited s (ReqReadSuperblockOp id which) = ⊥
@@ -68,7 +68,7 @@ OtherSlotWaits s dop which =
 
 pub record PageInSuperblockReq⁺ (s s' : Variables) (dop : DiskOp) (which : Bool) : Type 0 where
   pub source : PageInSuperblockReq s s' dop which
-  pub other_slot : OtherSlotWaits s dop which → ⊥
+  pub other_slot_is : OtherSlotWaits s dop which → ⊥
 
 -- "A journal answer carries no which: the piece whose read has its id takes it." Nothing is taken away.
 
@@ -81,8 +81,8 @@ pub record DamagedJournalClauses (s : LoadingOtherVariables) (s' : Variables) (d
   pub id : ReqId
   pub op : dop ≡ RespReadJournalOp id none
   pub which : Bool
-  pub waiting : at s.journal_reads which ≡ some id
-  pub next : s' ≡ LoadingOther (to_journal_reads (put s.journal_reads which none) s)
+  pub waiting : at s.journalReads which ≡ some id
+  pub next : s' ≡ LoadingOther (to_journal_reads (put s.journalReads which none) s)
 
 abbrev pub DamagedJournal : Variables → Variables → DiskOp → Type 0
 DamagedJournal s s' dop = IsLoadingOther s (λ s. DamagedJournalClauses s s' dop)
@@ -122,7 +122,7 @@ SyncStays s s' = WaitsIdle s × (sync_reqs_of s' ≡ sync_reqs_of s)
 
 pub record Advance⁺ (s s' : Variables) (dop : DiskOp) (new-je : List JournalEntry) : Type 0 where
   pub source : M.Advance s s' dop new-je
-  pub none_blank : none_blank new-je ≡ true
+  pub none_blank_is : none_blank new-je ≡ true
 
 -- The machine's steps with all this: `which` of a journal answer is not looked at.
 

@@ -14,7 +14,7 @@ use Rattle.interval.specs.declared.JournalInterval.{JournalInterval}
 use Rattle.superblock.specs.declared.Superblock.{Superblock}
 use Rattle.superblock.specs.Superblock.{increment_superblock_counter, select_superblock_index, select_superblock, journal_front_interval_of_superblock, journal_back_interval_of_superblock, wf_superblock}
 use Rattle.superblock.specs.Laws.{WFSuperblock}
-use Rattle.laws.specs.Sets.{Ids, no_ids, join, leave, Map, no_keys, bind, unbind, each, both, at, put}
+use Rattle.laws.specs.Sets.{Ids, empty_ids, join, leave, Map, no_keys, bind, unbind, each, both, at, put}
 use Rattle.codec.specs.Codec.{JournalEntry, JournalRange, journal_range_len, journal_range_concat, journal_range_empty, Codec, JournalRangeParses}
 use Rattle.source.specs.JournalDisk.{ReqId, ReqWriteSuperblock, ReqWriteJournal, DiskOp, ReqReadSuperblockOp, ReqReadJournalOp, ReqWriteSuperblockOp, ReqWriteJournalOp, RespReadSuperblockOp, RespReadJournalOp, RespWriteSuperblockOp, RespWriteJournalOp, NoDiskOp}
 pub use Rattle.source.specs.MachineState.{SyncReqStatus, State1, State2, State3, SuperblockReadResult, SuperblockSuccess, SuperblockUnfinished, SuperblockCorruption, CommitStatus, CommitNone, CommitAdvanceLog, CommitAdvanceLocation}
@@ -82,21 +82,21 @@ join_ids s id1 (some id2) = join (join s id1) id2
 
 pub record WriteBackJournalReqClauses (g : Geometry) (C : Codec) (s : ReadyVariables) (s' : Variables) (dop : DiskOp) (jr : JournalRange) : Type 0 where
   pub parses : JournalRangeParses C jr (to_write s)
-  pub fits : journal_range_len jr + s.written_journal_len ≤ num_journal_blocks g
+  pub fits : journal_range_len jr + s.writtenJournalLen ≤ num_journal_blocks g
   pub some_block : 0 < journal_range_len jr
   pub no_write : s.superblock_write ≡ none
   pub start_in : s.superblock.journalStart < num_journal_blocks g
-  pub written_in : s.written_journal_len ≤ num_journal_blocks g
+  pub written_in : s.writtenJournalLen ≤ num_journal_blocks g
   pub id1 : ReqId
   pub id2 : Option ReqId
   pub req : ReqWriteJournal
   pub op : dop ≡ ReqWriteJournalOp id1 id2 req
   pub journal_is : req.journal ≡ jr
-  pub start_is : req.start ≡ journal_pos_add g s.superblock.journalStart s.written_journal_len
+  pub start_is : req.start ≡ journal_pos_add g s.superblock.journalStart s.writtenJournalLen
   pub next : s' ≡ Ready
       (to_outstanding_journal_writes (join_ids s.outstanding_journal_writes id1 id2)
-      (to_written_journal_len (s.written_journal_len + journal_range_len jr)
-      (to_frozen_journal_position (if_none s.in_memory_journal_frozen s.frozen_journal_position (s.written_journal_len + journal_range_len jr))
+      (to_written_journal_len (s.writtenJournalLen + journal_range_len jr)
+      (to_frozen_journal_position (if_none s.in_memory_journal_frozen s.frozenJournalPosition (s.writtenJournalLen + journal_range_len jr))
       (to_in_memory_journal (if_none s.in_memory_journal_frozen [] s.in_memory_journal)
       (to_in_memory_journal_frozen []
       (to_sync_reqs (if_none s.in_memory_journal_frozen (sync_reqs3to2 s.sync_reqs) s.sync_reqs) s))))))
@@ -115,10 +115,10 @@ WriteBackJournalResp s s' dop = IsReady s (λ s. WriteBackJournalRespClauses s s
 
 -- what both commits have: which slot is written, that no journal write is outstanding, and what they set
 abbrev pub commit_slot : ReadyVariables → Bool
-commit_slot s = not s.which_superblock
+commit_slot s = not s.whichSuperblock
 
 abbrev pub NoneOutstanding : ReadyVariables → Type 0
-NoneOutstanding s = s.outstanding_journal_writes ≡ no_ids
+NoneOutstanding s = s.outstanding_journal_writes ≡ empty_ids
 
 abbrev pub committing : CommitStatus → ReqId → Superblock → ReadyVariables → ReadyVariables
 committing status id new s = to_new_superblock (some new) (to_superblock_write (some id) (to_commit_status status s))
@@ -129,7 +129,7 @@ advanced_log s =
     record {
       counter = increment_superblock_counter s.superblock.counter;
       journalStart = s.superblock.journalStart;
-      journalLen = s.written_journal_len;
+      journalLen = s.writtenJournalLen;
       indirectionTableLoc = s.superblock.indirectionTableLoc;
     }
 
@@ -138,11 +138,11 @@ pub record WriteBackSuperblockReq-AdvanceLogClauses (g : Geometry) (s : ReadyVar
   pub which : Bool
   pub req : ReqWriteSuperblock
   pub op : dop ≡ ReqWriteSuperblockOp id which req
-  pub no_commit : s.commit_status ≡ CommitNone
+  pub no_commit_is : s.commit_status ≡ CommitNone
   pub all_written : NoneOutstanding s
-  pub none_frozen : s.in_memory_journal_frozen ≡ []
+  pub none_frozen_is : s.in_memory_journal_frozen ≡ []
   pub which_is : which ≡ commit_slot s
-  pub written_in : s.written_journal_len ≤ num_journal_blocks g
+  pub written_in : s.writtenJournalLen ≤ num_journal_blocks g
   pub superblock_is : req.superblock ≡ advanced_log s
   pub next : s' ≡ Ready (committing CommitAdvanceLog id (advanced_log s) s)
 
@@ -154,8 +154,8 @@ abbrev pub advanced_location : Geometry → ReadyVariables → Location → Supe
 advanced_location g s loc =
     record {
       counter = increment_superblock_counter s.superblock.counter;
-      journalStart = journal_pos_add g s.superblock.journalStart s.frozen_journal_position;
-      journalLen = s.written_journal_len - s.frozen_journal_position;
+      journalStart = journal_pos_add g s.superblock.journalStart s.frozenJournalPosition;
+      journalLen = s.writtenJournalLen - s.frozenJournalPosition;
       indirectionTableLoc = loc;
     }
 
@@ -165,14 +165,14 @@ pub record WriteBackSuperblockReq-AdvanceLocationClauses (g : Geometry) (s : Rea
   pub req : ReqWriteSuperblock
   pub op : dop ≡ ReqWriteSuperblockOp id which req
   pub loc : Location
-  pub received : s.frozen_loc ≡ some loc
-  pub no_commit : s.commit_status ≡ CommitNone
+  pub received : s.frozenLoc ≡ some loc
+  pub no_commit_is : s.commit_status ≡ CommitNone
   pub all_written : NoneOutstanding s
-  pub none_frozen : s.in_memory_journal_frozen ≡ []
+  pub none_frozen_is : s.in_memory_journal_frozen ≡ []
   pub which_is : which ≡ commit_slot s
   pub start_in : s.superblock.journalStart < num_journal_blocks g
-  pub position_in : s.frozen_journal_position ≤ s.written_journal_len
-  pub written_in : s.written_journal_len ≤ num_journal_blocks g
+  pub position_in : s.frozenJournalPosition ≤ s.writtenJournalLen
+  pub written_in : s.writtenJournalLen ≤ num_journal_blocks g
   pub superblock_is : req.superblock ≡ advanced_location g s loc
   pub next : s' ≡ Ready (committing CommitAdvanceLocation id (advanced_location g s loc) s)
 
@@ -187,22 +187,22 @@ pub record WriteBackSuperblockRespClauses (s : ReadyVariables) (s' : Variables) 
   pub new : Superblock
   pub new_is : s.new_superblock ≡ some new
   pub still_ready : IsReady s' (λ s'. Unit {0})
-  pub advance_location : s.commit_status ≡ CommitAdvanceLocation → s' ≡ Ready
+  pub advance_location_is : s.commit_status ≡ CommitAdvanceLocation → s' ≡ Ready
       (to_superblock_write none
       (to_superblock new
       (to_new_superblock none
-      (to_which_superblock (not s.which_superblock)
+      (to_which_superblock (not s.whichSuperblock)
       (to_sync_reqs (sync_reqs2to1 s.sync_reqs)
-      (to_written_journal_len (s.written_journal_len - s.frozen_journal_position)
+      (to_written_journal_len (s.writtenJournalLen - s.frozenJournalPosition)
       (to_frozen_journal_position 0
       (to_frozen_loc none
       (to_is_frozen false
       (to_commit_status CommitNone s))))))))))
-  pub advance_log : s.commit_status ≡ CommitAdvanceLog → s' ≡ Ready
+  pub advance_log_is : s.commit_status ≡ CommitAdvanceLog → s' ≡ Ready
       (to_superblock_write none
       (to_superblock new
       (to_new_superblock none
-      (to_which_superblock (not s.which_superblock)
+      (to_which_superblock (not s.whichSuperblock)
       (to_sync_reqs (sync_reqs2to1 s.sync_reqs)
       (to_commit_status CommitNone s))))))
 
@@ -221,10 +221,10 @@ pub record PageInJournalReqClauses (g : Geometry) (s : LoadingOtherVariables) (s
   pub start_in : s.superblock.journalStart < num_journal_blocks g
   pub len_in : s.superblock.journalLen ≤ num_journal_blocks g
   pub interval_is : journal_interval_of_superblock g which s.superblock ≡ some interval
-  pub no_read : at s.journal_reads which ≡ none
+  pub no_read : at s.journalReads which ≡ none
   pub no_piece : at s.journal_pieces which ≡ none
   pub next : s' ≡ LoadingOther
-      (to_journal_reads (put (put s.journal_reads which (some id)) (not which) (unless_is (at s.journal_reads (not which)) id)) s)
+      (to_journal_reads (put (put s.journalReads which (some id)) (not which) (unless_is (at s.journalReads (not which)) id)) s)
 
 abbrev pub PageInJournalReq : Geometry → Variables → Variables → DiskOp → Bool → Type 0
 PageInJournalReq g s s' dop which = IsLoadingOther s (λ s. PageInJournalReqClauses g s s' dop which)
@@ -233,9 +233,9 @@ pub record PageInJournalRespClauses (s : LoadingOtherVariables) (s' : Variables)
   pub id : ReqId
   pub jr : JournalRange
   pub op : dop ≡ RespReadJournalOp id (some jr)
-  pub waiting : at s.journal_reads which ≡ some id
+  pub waiting : at s.journalReads which ≡ some id
   pub next : s' ≡ LoadingOther
-      (to_journal_reads (put s.journal_reads which none)
+      (to_journal_reads (put s.journalReads which none)
       (to_journal_pieces (put s.journal_pieces which (some jr)) s))
 
 abbrev pub PageInJournalResp : Variables → Variables → DiskOp → Bool → Type 0
@@ -280,8 +280,8 @@ pub record FinishLoadingSuperblockPhaseClauses (s : LoadingSuperblockVariables) 
   pub next : s' ≡ LoadingOther
       (record {
         superblock = select_superblock superblock1 superblock2;
-        which_superblock = selected_second superblock1 superblock2;
-        journal_reads = both none;
+        whichSuperblock = selected_second superblock1 superblock2;
+        journalReads = both none;
         journal_pieces = both none;
         sync_reqs = s.sync_reqs;
       })
@@ -303,25 +303,25 @@ loaded g s =
     loaded_range (journal_back_interval_of_superblock g s.superblock) (journal_front_interval_of_superblock g s.superblock)
     (get_or (at s.journal_pieces false) []) (get_or (at s.journal_pieces true) [])
 
--- frozen_journal_position is left open
+-- frozenJournalPosition is left open
 pub record FinishLoadingOtherPhaseClauses (g : Geometry) (C : Codec) (s : LoadingOtherVariables) (s' : ReadyVariables) (dop : DiskOp) : Type 0 where
   pub op : dop ≡ NoDiskOp
   pub start_in : s.superblock.journalStart < num_journal_blocks g
   pub len_in : s.superblock.journalLen ≤ num_journal_blocks g
-  pub front_in : (v : JournalInterval) → journal_front_interval_of_superblock g s.superblock ≡ some v → (jr : JournalRange) × (at s.journal_pieces false ≡ some jr)
+  pub front_in_is : (v : JournalInterval) → journal_front_interval_of_superblock g s.superblock ≡ some v → (jr : JournalRange) × (at s.journal_pieces false ≡ some jr)
   pub back_in_is : (v : JournalInterval) → journal_back_interval_of_superblock g s.superblock ≡ some v → (jr : JournalRange) × (at s.journal_pieces true ≡ some jr)
   pub superblock_write_is : s'.superblock_write ≡ none
   pub in_memory_journal_frozen_is : s'.in_memory_journal_frozen ≡ []
   pub in_memory_journal_is : s'.in_memory_journal ≡ []
-  pub outstanding_journal_writes_is : s'.outstanding_journal_writes ≡ no_ids
-  pub written_journal_len_is : s'.written_journal_len ≡ s.superblock.journalLen
+  pub outstanding_journal_writes_is : s'.outstanding_journal_writes ≡ empty_ids
+  pub written_journal_len_is : s'.writtenJournalLen ≡ s.superblock.journalLen
   pub parses : JournalRangeParses C (loaded g s) s'.replay_journal
   pub superblock_is : s'.superblock ≡ s.superblock
-  pub which_superblock_is : s'.which_superblock ≡ s.which_superblock
+  pub which_superblock_is : s'.whichSuperblock ≡ s.whichSuperblock
   pub new_superblock_is : s'.new_superblock ≡ none
   pub sync_reqs_is : s'.sync_reqs ≡ s.sync_reqs
-  pub is_frozen_is : s'.is_frozen ≡ false
-  pub frozen_loc_is : s'.frozen_loc ≡ none
+  pub is_frozen_is : s'.isFrozen ≡ false
+  pub frozen_loc_is : s'.frozenLoc ≡ none
   pub commit_status_is : s'.commit_status ≡ CommitNone
 
 abbrev pub FinishLoadingOtherPhase : Geometry → Codec → Variables → Variables → DiskOp → Type 0
@@ -330,13 +330,13 @@ FinishLoadingOtherPhase g C s s' dop = IsLoadingOther s (λ s. IsReady s' (λ s'
 pub record FreezeClauses (s : ReadyVariables) (s' : Variables) (dop : DiskOp) : Type 0 where
   pub op : dop ≡ NoDiskOp
   pub no_write : s.superblock_write ≡ none
-  pub other_loc : s.frozen_loc ≡ some s.superblock.indirectionTableLoc → ⊥
+  pub other_loc : s.frozenLoc ≡ some s.superblock.indirectionTableLoc → ⊥
   pub replayed : s.replay_journal ≡ []
   pub next : s' ≡ Ready
       (to_frozen_loc none
       (to_in_memory_journal_frozen (s.in_memory_journal_frozen ++ s.in_memory_journal)
       (to_in_memory_journal []
-      (to_frozen_journal_position s.written_journal_len
+      (to_frozen_journal_position s.writtenJournalLen
       (to_sync_reqs (sync_reqs3to2 s.sync_reqs)
       (to_is_frozen true s))))))
 
@@ -345,8 +345,8 @@ Freeze s s' dop = IsReady s (λ s. FreezeClauses s s' dop)
 
 pub record ReceiveFrozenLocClauses (g : Geometry) (s : ReadyVariables) (s' : Variables) (dop : DiskOp) (loc : Location) : Type 0 where
   pub op : dop ≡ NoDiskOp
-  pub frozen : s.is_frozen ≡ true
-  pub none_received : s.frozen_loc ≡ none
+  pub frozen : s.isFrozen ≡ true
+  pub none_received : s.frozenLoc ≡ none
   pub loc_valid : ValidIndirectionTableLocation g loc
   pub next : s' ≡ Ready (to_frozen_loc (some loc) s)
 
@@ -381,12 +381,12 @@ pub record PopSyncReq (s s' : Variables) (dop : DiskOp) (id : ℕ) : Type 0 wher
 
 -- the operations of the next predicate, a constructor each
 pub data NoOpOp (s : Variables) (dop : DiskOp) : Type 0 where
-  no_op : dop ≡ NoDiskOp → NoOpOp s dop
+  no_op_is : dop ≡ NoDiskOp → NoOpOp s dop
   superblock_read_op : (id : ReqId) (which : Bool) (superblock : Option Superblock) → dop ≡ RespReadSuperblockOp id which superblock → NoOpOp s dop
-  journal_read : (id : ReqId) (journal : Option JournalRange) → dop ≡ RespReadJournalOp id journal → NoOpOp s dop
-  superblock_written : (id : ReqId) (which : Bool) → dop ≡ RespWriteSuperblockOp id which
+  journal_read_is : (id : ReqId) (journal : Option JournalRange) → dop ≡ RespReadJournalOp id journal → NoOpOp s dop
+  superblock_written_is : (id : ReqId) (which : Bool) → dop ≡ RespWriteSuperblockOp id which
       → (IsReady s (λ s. s.superblock_write ≡ some id) → ⊥) → NoOpOp s dop
-  journal_written : (id : ReqId) → dop ≡ RespWriteJournalOp id
+  journal_written_is : (id : ReqId) → dop ≡ RespWriteJournalOp id
       → (IsReady s (λ s. s.outstanding_journal_writes id ≡ true) → ⊥) → NoOpOp s dop
 
 pub record NoOp (s s' : Variables) (dop : DiskOp) : Type 0 where
@@ -424,62 +424,62 @@ Next g C s s' dop = (step : Step) × NextStep g C s s' dop step
 
 pub record InvLoadingSuperblock (g : Geometry) (s : LoadingSuperblockVariables) : Type 0 where
   pub success_read : (which : Bool) (superblock : Superblock) → at s.superblocks which ≡ SuperblockSuccess superblock → at s.outstanding_superblock_reads which ≡ none
-  pub success_wf : (which : Bool) (superblock : Superblock) → at s.superblocks which ≡ SuperblockSuccess superblock → WFSuperblock g superblock
+  pub success_wf_is : (which : Bool) (superblock : Superblock) → at s.superblocks which ≡ SuperblockSuccess superblock → WFSuperblock g superblock
   pub corruption_read : (which : Bool) → at s.superblocks which ≡ SuperblockCorruption → at s.outstanding_superblock_reads which ≡ none
 
 pub record InvLoadingOther (g : Geometry) (s : LoadingOtherVariables) : Type 0 where
   pub superblock_wf : WFSuperblock g s.superblock
-  pub read_interval : (which : Bool) (id : ReqId) → at s.journal_reads which ≡ some id → (v : JournalInterval) × (journal_interval_of_superblock g which s.superblock ≡ some v)
-  pub piece_interval : (which : Bool) (jr : JournalRange) → at s.journal_pieces which ≡ some jr → (v : JournalInterval) × (journal_interval_of_superblock g which s.superblock ≡ some v)
+  pub read_interval : (which : Bool) (id : ReqId) → at s.journalReads which ≡ some id → (v : JournalInterval) × (journal_interval_of_superblock g which s.superblock ≡ some v)
+  pub piece_interval_is : (which : Bool) (jr : JournalRange) → at s.journal_pieces which ≡ some jr → (v : JournalInterval) × (journal_interval_of_superblock g which s.superblock ≡ some v)
 
 -- o.Some?
 abbrev pub Some : {A : Type 0} → Option A → Type 0
 Some {A} o = (a : A) × (o ≡ some a)
 
 pub record InvFrozen (g : Geometry) (s : ReadyVariables) : Type 0 where
-  pub position_in : s.frozen_journal_position ≤ num_journal_blocks g
-  pub len_written : s.superblock.journalLen ≤ s.written_journal_len
-  pub position_written : s.frozen_journal_position ≤ s.written_journal_len
+  pub position_in : s.frozenJournalPosition ≤ num_journal_blocks g
+  pub len_written : s.superblock.journalLen ≤ s.writtenJournalLen
+  pub position_written : s.frozenJournalPosition ≤ s.writtenJournalLen
 
 pub record InvReceived (g : Geometry) (s : ReadyVariables) (loc : Location) : Type 0 where
   pub loc_valid : ValidIndirectionTableLocation g loc
-  pub frozen : s.is_frozen ≡ true
+  pub frozen : s.isFrozen ≡ true
 
 pub record InvAdvanceLog (s : ReadyVariables) : Type 0 where
   pub new : Superblock
   pub new_is : s.new_superblock ≡ some new
   pub new_loc : new.indirectionTableLoc ≡ s.superblock.indirectionTableLoc
   pub new_start : new.journalStart ≡ s.superblock.journalStart
-  pub new_len : new.journalLen ≡ s.written_journal_len
+  pub new_len : new.journalLen ≡ s.writtenJournalLen
 
 pub record InvAdvanceLocation (g : Geometry) (s : ReadyVariables) : Type 0 where
-  pub frozen : s.is_frozen ≡ true
-  pub received : Some s.frozen_loc
+  pub frozen : s.isFrozen ≡ true
+  pub received : Some s.frozenLoc
   pub new : Superblock
   pub new_is : s.new_superblock ≡ some new
-  pub new_start : new.journalStart ≡ journal_pos_add g s.superblock.journalStart s.frozen_journal_position
-  pub new_len : new.journalLen ≡ s.written_journal_len - s.frozen_journal_position
-  pub new_end : s.frozen_journal_position + new.journalLen ≤ s.written_journal_len
+  pub new_start : new.journalStart ≡ journal_pos_add g s.superblock.journalStart s.frozenJournalPosition
+  pub new_len : new.journalLen ≡ s.writtenJournalLen - s.frozenJournalPosition
+  pub new_end : s.frozenJournalPosition + new.journalLen ≤ s.writtenJournalLen
 
 pub record InvNewSuperblock (g : Geometry) (s : ReadyVariables) (new : Superblock) : Type 0 where
-  pub all_written : s.outstanding_journal_writes ≡ no_ids
-  pub new_loc : (new.indirectionTableLoc ≡ s.superblock.indirectionTableLoc) ⊎ (s.frozen_loc ≡ some new.indirectionTableLoc)
+  pub all_written : s.outstanding_journal_writes ≡ empty_ids
+  pub new_loc : (new.indirectionTableLoc ≡ s.superblock.indirectionTableLoc) ⊎ (s.frozenLoc ≡ some new.indirectionTableLoc)
   pub commit : (s.commit_status ≡ CommitAdvanceLog) ⊎ (s.commit_status ≡ CommitAdvanceLocation)
   pub new_wf : WFSuperblock g new
   pub new_counter : new.counter ≡ increment_superblock_counter s.superblock.counter
-  pub none_frozen : s.in_memory_journal_frozen ≡ []
+  pub none_frozen_is : s.in_memory_journal_frozen ≡ []
 
 pub record InvSomeFrozen (s : ReadyVariables) : Type 0 where
-  pub position_is : s.frozen_journal_position ≡ s.written_journal_len
-  pub frozen : s.is_frozen ≡ true
+  pub position_is : s.frozenJournalPosition ≡ s.writtenJournalLen
+  pub frozen : s.isFrozen ≡ true
 
 pub record InvReady (g : Geometry) (s : ReadyVariables) : Type 0 where
   pub write_new : Some s.superblock_write ↔ Some s.new_superblock
   pub write_commit : (s.superblock_write ≡ none) ↔ (s.commit_status ≡ CommitNone)
-  pub written_in : s.written_journal_len ≤ num_journal_blocks g
-  pub len_written : s.superblock.journalLen ≤ s.written_journal_len
-  pub if_frozen : s.is_frozen ≡ true → InvFrozen g s
-  pub if_received : (loc : Location) → s.frozen_loc ≡ some loc → InvReceived g s loc
+  pub written_in : s.writtenJournalLen ≤ num_journal_blocks g
+  pub len_written : s.superblock.journalLen ≤ s.writtenJournalLen
+  pub if_frozen : s.isFrozen ≡ true → InvFrozen g s
+  pub if_received : (loc : Location) → s.frozenLoc ≡ some loc → InvReceived g s loc
   pub superblock_wf : WFSuperblock g s.superblock
   pub if_advance_log : s.commit_status ≡ CommitAdvanceLog → InvAdvanceLog s
   pub if_advance_location : s.commit_status ≡ CommitAdvanceLocation → InvAdvanceLocation g s

@@ -10,7 +10,7 @@ use Rattle.interval.specs.Interval.{interval}
 use Rattle.interval.specs.Facts.{ContiguousJournalInterval, InCyclicRange}
 use Rattle.interval.specs.Journal.{JournalBlock, JournalUpdate}
 use Rattle.superblock.specs.declared.Superblock.{Superblock}
-use Rattle.laws.specs.Sets.{Ids, no_ids, join, leave, Map, no_keys, bind, unbind, Two, both, at, put}
+use Rattle.laws.specs.Sets.{Ids, empty_ids, join, leave, Map, no_keys, bind, unbind, Two, both, at, put}
 use Rattle.codec.specs.Codec.{JournalRange, Disk-HasJournalRange, disk_journal_range}
 
 abbrev pub ReqId : Type 0
@@ -67,7 +67,7 @@ abbrev pub to_journal : List (Option JournalBlock) → Variables → Variables
 to_journal x s = record { req_read_superblocks = s.req_read_superblocks; req_read_journals = s.req_read_journals; req_write_superblocks = s.req_write_superblocks; req_write_journals = s.req_write_journals; superblocks = s.superblocks; journal = x }
 
 pub record Init (g : Geometry) (s : Variables) : Type 0 where
-  pub no_superblock_reads : s.req_read_superblocks ≡ both no_ids
+  pub no_superblock_reads : s.req_read_superblocks ≡ both empty_ids
   pub no_journal_reads : s.req_read_journals ≡ no_keys
   pub no_superblock_writes : s.req_write_superblocks ≡ both none
   pub no_journal_writes : s.req_write_journals ≡ no_keys
@@ -103,7 +103,7 @@ abbrev pub written2 : Geometry → ReqWriteJournal → JournalInterval
 written2 g req = interval 0 (length req.journal - (num_journal_blocks g - req.start))
 
 pub record WriteStraight (s s' : Variables) (id1 : ReqId) (id2 : Option ReqId) (req : ReqWriteJournal) : Type 0 where
-  pub one_id : id2 ≡ none
+  pub one_id_is : id2 ≡ none
   pub next : s' ≡ to_journal s'.journal (to_req_write_journals (bind s.req_write_journals id1 (written req)) s)
 
 pub record WriteWrapped (g : Geometry) (s s' : Variables) (id1 : ReqId) (id2 : Option ReqId) (req : ReqWriteJournal) : Type 0 where
@@ -187,7 +187,7 @@ pub record havocJournal (g : Geometry) (journal journal' : List (Option JournalB
   pub kept : (i : ℕ) → i < length journal → JournalUntouched g i req_write_journals → get_or journal i none ≡ get_or journal' i none
 
 pub record Crash (g : Geometry) (s s' : Variables) : Type 0 where
-  pub no_superblock_reads : s'.req_read_superblocks ≡ both no_ids
+  pub no_superblock_reads : s'.req_read_superblocks ≡ both empty_ids
   pub no_journal_reads : s'.req_read_journals ≡ no_keys
   pub no_superblock_writes : s'.req_write_superblocks ≡ both none
   pub no_journal_writes : s'.req_write_journals ≡ no_keys

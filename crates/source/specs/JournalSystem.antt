@@ -3,7 +3,7 @@
 use Rattle.std.specs.Prelude.{ℕ, ◌-◌, Bool, true, false, cond, not, ◌≡◌, List, [], ◌++◌}
 use Rattle.std.proofs.Common.{sym, subst}
 use Rattle.std.proofs.Math.Option.{Option, none, some}
-use Rattle.laws.specs.Choice.{also, split-eq}
+use Rattle.laws.specs.Choice.{also, split_eq}
 use Rattle.layout.specs.declared.Geometry.{Geometry}
 use Rattle.layout.specs.declared.Location.{Location}
 use Rattle.layout.specs.Journal.{journal_pos_add}
@@ -12,7 +12,7 @@ use Rattle.interval.specs.Interval.{interval}
 use Rattle.interval.specs.Facts.{ValidJournalInterval}
 use Rattle.superblock.specs.declared.Superblock.{Superblock}
 use Rattle.superblock.specs.Superblock.{increment_superblock_counter, select_superblock, same_superblock}
-use Rattle.superblock.specs.Laws.{WFSuperblock, selects_second, selects_first, selected_second, selected_first}
+use Rattle.superblock.specs.Laws.{WFSuperblock, selects_second, selects_first, selected_second_is, selected_first}
 use Rattle.laws.specs.Sets.{Map, each, at}
 use Rattle.codec.specs.Codec.{JournalEntry, Codec, Disk-HasJournal, disk_journal}
 use Rattle.source.specs.JournalDisk as D
@@ -39,8 +39,8 @@ superblock_of_disk g disk h = select_superblock h.first.value h.second.value
 
 pub selected_wf : (g : Geometry) (superblock1 superblock2 : Superblock) → WFSuperblock g superblock1 → WFSuperblock g superblock2 → WFSuperblock g (select_superblock superblock1 superblock2)
 selected_wf g superblock1 superblock2 p q =
-    split-eq superblock2.counter (increment_superblock_counter superblock1.counter)
-    (λ e. subst (WFSuperblock g) (sym (selected_second superblock1 superblock2 (selects_second superblock1 superblock2 e))) q)
+    split_eq superblock2.counter (increment_superblock_counter superblock1.counter)
+    (λ e. subst (WFSuperblock g) (sym (selected_second_is superblock1 superblock2 (selects_second superblock1 superblock2 e))) q)
     (λ n. subst (WFSuperblock g) (sym (selected_first superblock1 superblock2 (selects_first superblock1 superblock2 n))) p)
 
 pub superblock_of_disk_wf : (g : Geometry) (disk : D.Variables) (h : DiskHasSuperblock g disk) → WFSuperblock g (superblock_of_disk g disk h)
@@ -70,13 +70,13 @@ on_ready (M.Variables.LoadingSuperblock s) f a = a
 abbrev pub frozen_start_pos : (g : Geometry) (s : Variables) → DiskHasSuperblock g s.disk → ℕ
 frozen_start_pos g s h =
     on_ready s.machine
-    (λ m. cond m.is_frozen (journal_pos_add g m.superblock.journalStart m.frozen_journal_position) m.superblock.journalStart)
+    (λ m. cond m.isFrozen (journal_pos_add g m.superblock.journalStart m.frozenJournalPosition) m.superblock.journalStart)
     (superblock_of_disk g s.disk h).journalStart
 
 abbrev pub frozen_len : (g : Geometry) (s : Variables) → DiskHasSuperblock g s.disk → ℕ
 frozen_len g s h =
     on_ready s.machine
-    (λ m. cond m.is_frozen (m.written_journal_len - m.frozen_journal_position) m.written_journal_len)
+    (λ m. cond m.isFrozen (m.writtenJournalLen - m.frozenJournalPosition) m.writtenJournalLen)
     (superblock_of_disk g s.disk h).journalLen
 
 abbrev pub frozen_interval : (g : Geometry) (s : Variables) → DiskHasSuperblock g s.disk → JournalInterval
@@ -102,7 +102,7 @@ gamma_start_pos g s h = (superblock_of_disk g s.disk h).journalStart
 pub record HasUpdateOccurredUnackedClauses (m : M.ReadyVariables) (disk : D.Variables) : Type 0 where
   pub new : Superblock
   pub new_is : m.new_superblock ≡ some new
-  pub landed : at disk.superblocks (not m.which_superblock) ≡ m.new_superblock
+  pub landed : at disk.superblocks (not m.whichSuperblock) ≡ m.new_superblock
 
 abbrev pub HasUpdateOccurredUnacked : Variables → Type 0
 HasUpdateOccurredUnacked s = M.IsReady s.machine (λ m. HasUpdateOccurredUnackedClauses m s.disk)
@@ -122,7 +122,7 @@ is_advance_location M.CommitStatus.CommitAdvanceLog = false
 is_advance_location M.CommitStatus.CommitAdvanceLocation = true
 
 abbrev pub has_update_occurred_unacked : Variables → Bool
-has_update_occurred_unacked s = on_ready s.machine (λ m. holds_new (at s.disk.superblocks (not m.which_superblock)) m.new_superblock) false
+has_update_occurred_unacked s = on_ready s.machine (λ m. holds_new (at s.disk.superblocks (not m.whichSuperblock)) m.new_superblock) false
 
 abbrev pub has_location_update_occurred_unacked : Variables → Bool
 has_location_update_occurred_unacked s = also (has_update_occurred_unacked s) (on_ready s.machine (λ m. is_advance_location m.commit_status) false)
@@ -130,7 +130,7 @@ has_location_update_occurred_unacked s = also (has_update_occurred_unacked s) (o
 abbrev pub gamma_len : (g : Geometry) (s : Variables) → DiskHasSuperblock g s.disk → ℕ
 gamma_len g s h =
     on_ready s.machine
-    (λ m. cond (has_location_update_occurred_unacked s) (m.written_journal_len - m.frozen_journal_position) m.written_journal_len)
+    (λ m. cond (has_location_update_occurred_unacked s) (m.writtenJournalLen - m.frozenJournalPosition) m.writtenJournalLen)
     (superblock_of_disk g s.disk h).journalLen
 
 abbrev pub gamma_interval : (g : Geometry) (s : Variables) → DiskHasSuperblock g s.disk → JournalInterval
@@ -153,8 +153,8 @@ WFPersistentLoc g s = DiskHasSuperblock g s.disk
 abbrev pub persistent_loc : (g : Geometry) (s : Variables) → WFPersistentLoc g s → Location
 persistent_loc g s h = (superblock_of_disk g s.disk h).indirectionTableLoc
 
-abbrev pub frozen_loc : Variables → Option Location
-frozen_loc s = on_ready s.machine (λ m. m.frozen_loc) none
+abbrev pub system_frozen_loc : Variables → Option Location
+system_frozen_loc s = on_ready s.machine (λ m. m.frozenLoc) none
 
 -- ThreeStateTypes.SyncReqStatus has the same three states
 abbrev pub sync_req_state : Variables → M.SyncReqStatus → M.SyncReqStatus

@@ -7,4 +7,3 @@ pub mod Meets
 pub mod Before
 pub mod Departures
 pub mod Within
-pub mod Laws

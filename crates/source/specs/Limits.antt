@@ -17,9 +17,9 @@ pub record Limits : Type 0 where
   pub pending_bytes : ℕ
   pub entry_bytes : ℕ
   pub step_entries : ℕ
-  pub superblock_reads : ℕ
-  pub journal_reads : ℕ
-  pub journal_writes : ℕ
+  pub superblockReads : ℕ
+  pub journalReads : ℕ
+  pub journalWrites : ℕ
 
 abbrev pub limits : Limits
 limits =
@@ -30,9 +30,9 @@ limits =
       pending_bytes = 65536;
       entry_bytes = 255;
       step_entries = 16;
-      superblock_reads = 8;
-      journal_reads = 8;
-      journal_writes = 16;
+      superblockReads = 8;
+      journalReads = 8;
+      journalWrites = 16;
     }
 
 -- the counts of a machine
@@ -52,9 +52,9 @@ MachineCounts L (M.Variables.LoadingSuperblock s) = LoadingCounts L s.sync_reqs
 
 -- the counts of a disk; one superblock write for each slot is met by the type
 pub record DiskCounts (L : Limits) (d : D.Variables) : Type 0 where
-  pub superblock_reads_few : (which : Bool) → AtMost L.superblock_reads (at d.req_read_superblocks which)
-  pub journal_reads_few : AtMost L.journal_reads (keys d.req_read_journals)
-  pub journal_writes_few : AtMost L.journal_writes (keys d.req_write_journals)
+  pub superblock_reads_few : (which : Bool) → AtMost L.superblockReads (at d.req_read_superblocks which)
+  pub journal_reads_few : AtMost L.journalReads (keys d.req_read_journals)
+  pub journal_writes_few : AtMost L.journalWrites (keys d.req_write_journals)
 
 -- the entries that a step brings: few, and each of an allowed length
 abbrev pub entries_of : M.Step → List JournalEntry

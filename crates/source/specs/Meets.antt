@@ -4,7 +4,7 @@ use Rattle.std.specs.Prelude.{◌*◌, ◌≤◌, Bool, true, false, not, ◌≡
 use Rattle.std.proofs.Math.Option.{Option, none, some}
 use Rattle.laws.specs.Fold.{sum}
 use Rattle.laws.specs.Cut.{lengths}
-use Rattle.laws.specs.Sets.{Ids, no_ids, join, Map, no_keys, bind, keys, Two, both, at, put}
+use Rattle.laws.specs.Sets.{Ids, empty_ids, join, Map, no_keys, bind, keys, Two, both, at, put}
 use Rattle.layout.specs.declared.Geometry.{Geometry}
 use Rattle.layout.specs.Geometry.{num_journal_blocks}
 use Rattle.interval.specs.declared.JournalInterval.{JournalInterval}
@@ -35,8 +35,8 @@ pub record ReadyShape (g : Geometry) (L : Limits) (s : M.ReadyVariables) : Type 
   pub replay : ReplayShape g L s.replay_journal
 
 pub record LoadingOtherShape (g : Geometry) (s : M.LoadingOtherVariables) : Type 0 where
-  pub reads_differ : (id : ReqId) → at s.journal_reads false ≡ some id → at s.journal_reads true ≡ some id → ⊥
-  pub read_or_in : (which : Bool) (id : ReqId) (jr : JournalRange) → at s.journal_reads which ≡ some id → at s.journal_pieces which ≡ some jr → ⊥
+  pub reads_differ : (id : ReqId) → at s.journalReads false ≡ some id → at s.journalReads true ≡ some id → ⊥
+  pub read_or_in : (which : Bool) (id : ReqId) (jr : JournalRange) → at s.journalReads which ≡ some id → at s.journal_pieces which ≡ some jr → ⊥
   pub piece_size : (which : Bool) (jr : JournalRange) (v : JournalInterval) → at s.journal_pieces which ≡ some jr
       → journal_interval_of_superblock g which s.superblock ≡ some v → SizedBlocks v.len jr
 
@@ -57,12 +57,12 @@ pub record DiskShape (g : Geometry) (d : D.Variables) : Type 0 where
 
 -- what the machine awaits, in the form in which the disk holds it
 abbrev pub one_id : Option ReqId → Ids
-one_id none = no_ids
-one_id (some id) = join no_ids id
+one_id none = empty_ids
+one_id (some id) = join empty_ids id
 
 abbrev pub awaited_superblock_reads : M.Variables → Two Ids
-awaited_superblock_reads (M.Variables.Ready s) = both no_ids
-awaited_superblock_reads (M.Variables.LoadingOther s) = both no_ids
+awaited_superblock_reads (M.Variables.Ready s) = both empty_ids
+awaited_superblock_reads (M.Variables.LoadingOther s) = both empty_ids
 awaited_superblock_reads (M.Variables.LoadingSuperblock s) =
     record { first = one_id (at s.outstanding_superblock_reads false); second = one_id (at s.outstanding_superblock_reads true) }
 
@@ -74,8 +74,8 @@ bind_read (some id) (some v) m = bind m id v
 abbrev pub awaited_journal_reads : Geometry → M.Variables → Map JournalInterval
 awaited_journal_reads g (M.Variables.Ready s) = no_keys
 awaited_journal_reads g (M.Variables.LoadingOther s) =
-    bind_read (at s.journal_reads false) (journal_interval_of_superblock g false s.superblock)
-    (bind_read (at s.journal_reads true) (journal_interval_of_superblock g true s.superblock) no_keys)
+    bind_read (at s.journalReads false) (journal_interval_of_superblock g false s.superblock)
+    (bind_read (at s.journalReads true) (journal_interval_of_superblock g true s.superblock) no_keys)
 awaited_journal_reads g (M.Variables.LoadingSuperblock s) = no_keys
 
 abbrev pub new_write : Option ReqId → Option Superblock → Option ReqWriteSuperblockId
@@ -85,26 +85,26 @@ new_write (some id) (some new) = some (record { id = id; req = record { superblo
 
 -- a commit writes the slot that the machine does not stand on
 abbrev pub awaited_superblock_writes : M.Variables → Two (Option ReqWriteSuperblockId)
-awaited_superblock_writes (M.Variables.Ready s) = put (both none) (not s.which_superblock) (new_write s.superblock_write s.new_superblock)
+awaited_superblock_writes (M.Variables.Ready s) = put (both none) (not s.whichSuperblock) (new_write s.superblock_write s.new_superblock)
 awaited_superblock_writes (M.Variables.LoadingOther s) = both none
 awaited_superblock_writes (M.Variables.LoadingSuperblock s) = both none
 
 abbrev pub awaited_journal_writes : M.Variables → Ids
 awaited_journal_writes (M.Variables.Ready s) = s.outstanding_journal_writes
-awaited_journal_writes (M.Variables.LoadingOther s) = no_ids
-awaited_journal_writes (M.Variables.LoadingSuperblock s) = no_ids
+awaited_journal_writes (M.Variables.LoadingOther s) = empty_ids
+awaited_journal_writes (M.Variables.LoadingSuperblock s) = empty_ids
 
 -- machine and disk: both slots well formed; the machine awaits exactly the ids that the disk holds, with the same slot, interval or new
 -- superblock; journal writes in flight overlap neither each other nor the selected interval, by a plain and a cyclic test of overlap
 pub record JoinedBy (plain : JournalInterval → JournalInterval → Bool) (cyclic : Geometry → JournalInterval → JournalInterval → Bool) (g : Geometry) (s : Y.Variables) : Type 0 where
   pub wf : WFDisk g s.disk
-  pub superblock_reads : s.disk.req_read_superblocks ≡ awaited_superblock_reads s.machine
-  pub journal_reads : s.disk.req_read_journals ≡ awaited_journal_reads g s.machine
+  pub superblock_reads_is : s.disk.req_read_superblocks ≡ awaited_superblock_reads s.machine
+  pub journal_reads_is : s.disk.req_read_journals ≡ awaited_journal_reads g s.machine
   pub superblock_writes : s.disk.req_write_superblocks ≡ awaited_superblock_writes s.machine
-  pub journal_writes : keys s.disk.req_write_journals ≡ awaited_journal_writes s.machine
+  pub journal_writes_is : keys s.disk.req_write_journals ≡ awaited_journal_writes s.machine
   pub writes_apart : (id1 id2 : ReqId) (v1 v2 : JournalInterval) → s.disk.req_write_journals id1 ≡ some v1 → s.disk.req_write_journals id2 ≡ some v2
       → plain v1 v2 ≡ true → id1 ≡ id2
-  pub writes_clear : (id : ReqId) (v : JournalInterval) → s.disk.req_write_journals id ≡ some v
+  pub writes_clear_is : (id : ReqId) (v : JournalInterval) → s.disk.req_write_journals id ≡ some v
       → cyclic g v (persistent_interval g s.disk wf) ≡ false
 
 -- the tests are those in which an empty interval overlaps nothing (request S-3); before it they were the source's (Before)

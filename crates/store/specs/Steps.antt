@@ -132,7 +132,7 @@ abbrev pub read_of : Bool → JournalRead
 read_of whole = cond whole read.Whole read.Damaged
 
 unfoldable pub ask_journal_read : Store → ℕ → Bool → List ℕ → ℕ
-ask_journal_read s id whole marks = ask_ack_read_journal s.disk.journal_reads id whole marks
+ask_journal_read s id whole marks = ask_ack_read_journal s.disk.journalReads id whole marks
 
 abbrev pub journal_read : Store → ℕ → Bool → List ℕ → StoreStepped
 journal_read s id whole marks =
@@ -146,7 +146,7 @@ abbrev pub copied_pieces : Paged → JournalInterval → (blocks pieces : List �
 copied_pieces p v blocks pieces = copy_blocks blocks v.start p.len pieces p.place
 
 abbrev pub read_pieces : Geometry → Store → ℕ → Bool → (blocks pieces : List ℕ) → List ℕ
-read_pieces g s id whole blocks pieces = copied_pieces (paged_in g s.machine id (read_of whole)) (held_interval s.disk.journal_reads id) blocks pieces
+read_pieces g s id whole blocks pieces = copied_pieces (paged_in g s.machine id (read_of whole)) (held_interval s.disk.journalReads id) blocks pieces
 
 abbrev pub read_lent : Geometry → Lent → Store → ℕ → Bool → Lent
 read_lent g l s id whole =
@@ -229,4 +229,4 @@ crashed s = store initial_machine (crashed_disk s.disk)
 
 abbrev pub crashed_lent : Lent → Store → (picture pictured : List ℕ) → Lent
 crashed_lent l s picture pictured =
-    with_journal l (crashed_blocks s.disk.journal_writes picture l.blocks) (crashed_marks s.disk.journal_writes pictured l.marks)
+    with_journal l (crashed_blocks s.disk.journalWrites picture l.blocks) (crashed_marks s.disk.journalWrites pictured l.marks)

@@ -5,7 +5,7 @@ use native.Mathlib.Omega.{arith}
 use borrow.Author.Tests.{leb-true, le-leb, ltb-true, lt-ltb, eq-eqb, ne_eqb, eqb-true}
 use Rattle.laws.specs.Choice.{also_left, also_right, also_both, by_eqb}
 use Rattle.layout.specs.declared.Geometry.{Geometry}
-use Rattle.layout.specs.Laws.{ValidIndirectionTableLocation, table_location_facts, facts_table_location, same_location, location_same}
+use Rattle.layout.specs.Laws.{ValidIndirectionTableLocation, table_location_facts, facts_table_location, same_location_is, location_same}
 use Rattle.superblock.specs.declared.Superblock.{Superblock}
 use Rattle.superblock.specs.Superblock.{increment_superblock_counter, increments1, select_superblock_index, select_superblock, wf_superblock, same_superblock}
 
@@ -32,9 +32,9 @@ module _ (g : Geometry) (s : Superblock) where
       (also_both _ _ (le-leb s.journalLen g.blocks w.len_in) (facts_table_location g s.indirectionTableLoc w.table_valid))
 
 -- the test says that two superblocks are the same exactly where they are
-pub same_superblock : (a b : Superblock) → same_superblock a b ≡ true → a ≡ b
+pub same_superblock_is : (a b : Superblock) → same_superblock a b ≡ true → a ≡ b
 unfolding same_superblock
-same_superblock a b e =
+same_superblock_is a b e =
     let e1 = also_right _ _ e in
     let e2 = also_right _ _ e1 in
     λ i.
@@ -42,7 +42,7 @@ same_superblock a b e =
       counter = eqb-true a.counter b.counter (also_left _ _ e) i;
       journalStart = eqb-true a.journalStart b.journalStart (also_left _ _ e1) i;
       journalLen = eqb-true a.journalLen b.journalLen (also_left _ _ e2) i;
-      indirectionTableLoc = same_location a.indirectionTableLoc b.indirectionTableLoc (also_right _ _ e2) i;
+      indirectionTableLoc = same_location_is a.indirectionTableLoc b.indirectionTableLoc (also_right _ _ e2) i;
     }
 
 pub superblock_same : (a b : Superblock) → a ≡ b → same_superblock a b ≡ true
@@ -95,9 +95,9 @@ module _ (a b : Superblock) where
   unfolding select_superblock_index increments1
   selects_first h = simp (ne_eqb b.counter (increment_superblock_counter a.counter) h)
 
-  pub selected_second : select_superblock_index a b ≡ 1 → select_superblock a b ≡ b
+  pub selected_second_is : select_superblock_index a b ≡ 1 → select_superblock a b ≡ b
   unfolding select_superblock
-  selected_second e = simp (eq-eqb (select_superblock_index a b) 1 e)
+  selected_second_is e = simp (eq-eqb (select_superblock_index a b) 1 e)
 
   pub selected_first : select_superblock_index a b ≡ 0 → select_superblock a b ≡ a
   unfolding select_superblock

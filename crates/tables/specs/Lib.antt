@@ -2,4 +2,3 @@ pub mod Rows
 pub mod IdTable
 pub mod IntervalTable
 pub mod SyncTable
-pub mod Laws

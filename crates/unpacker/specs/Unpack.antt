@@ -5,7 +5,7 @@ use Rattle.std.proofs.Common.{sym, ◌∙◌, ap, arith, length-append, take_all
 use mathlib.Core.List.{List, [], ◌++◌}
 use Rattle.std.proofs.Math.ListN.{length}
 use borrow.Author.Tests.{le-leb, lt-leb, leb-true}
-use Rattle.laws.specs.Choice.{also, ask, and_then, unless, also_left, also_right, and_then_left, and_then_right, ask_yes, unless-kept, unless-done}
+use Rattle.laws.specs.Choice.{also, ask, and_then, unless, also_left, also_right, and_then_left, and_then_right, ask_yes, unless_kept, unless_done}
 use Rattle.laws.specs.Part.{tail_is}
 use Rattle.laws.specs.Splice.{splice, clipped, splice_none, splice_more, clipped_fits, length_clipped}
 use Rattle.laws.specs.Cut.{flat, lengths, length_flat, length_lengths, flat_append, lengths_append}
@@ -168,17 +168,17 @@ pub unpack_unlent : (q : ℕ) (es : List Entry) → q ≡ 1 → scan.Refused 1 �
 unpack_unlent q es h = simp h
 
 pub unpack_unlent_kept : (q : ℕ) (x new : List ℕ) → q ≡ 1 → x ≡ unless q x new
-unpack_unlent_kept q x new h = sym (unless-kept q x new (omega arith))
+unpack_unlent_kept q x new h = sym (unless_kept q x new (omega arith))
 
 module _ (q a : ℕ) (h : q ≡ a) where
   pub unpack_answer : (r : Scanned) (es : List Entry) → r ≡ scanned a es → r ≡ scanned q es
   unpack_answer r es e = e ∙ ap (λ (n : ℕ). scanned n es) (sym h)
 
   pub unpack_kept : (n : ℕ) (es : List Entry) (x new : List ℕ) → scan.Refused n ≡ scanned a es → x ≡ unless q x new
-  unpack_kept n es x new e = sym (unless-kept q x new (λ k. (scanned_refused a n es e).1 (sym h ∙ k)))
+  unpack_kept n es x new e = sym (unless_kept q x new (λ k. (scanned_refused a n es e).1 (sym h ∙ k)))
 
   pub unpack_done : (n t : ℕ) (es : List Entry) (x old new : List ℕ) → scan.Total n t ≡ scanned a es → x ≡ new → x ≡ unless q old new
-  unpack_done n t es x old new e k = k ∙ sym (unless-done q old new (h ∙ (scanned_total a n t es e).0))
+  unpack_done n t es x old new e k = k ∙ sym (unless_done q old new (h ∙ (scanned_total a n t es e).0))
 
 pub unpack_parses : (xs : List ℕ) (n t : ℕ) (es : List Entry) → scan.Total n t ≡ scanned (ask 7 (all_parse xs)) es → all_parse xs ≡ true
 unpack_parses xs n t es e = ask_yes 7 (all_parse xs) (omega arith) (scanned_total (ask 7 (all_parse xs)) n t es e).0

@@ -4,7 +4,7 @@ use Rattle.std.proofs.Common.{sym, ◌∙◌, arith, length-append, length-drop}
 use Rattle.std.proofs.Math.Path.{ap}
 use mathlib.Core.List.{List, [], ◌++◌}
 use Rattle.std.proofs.Math.ListN.{length}
-use Rattle.laws.specs.Choice.{ask, split-eq, split-bool, false-true}
+use Rattle.laws.specs.Choice.{ask, split_eq, split_bool, false_true}
 use Rattle.laws.specs.Part.{tail_is}
 use Rattle.laws.specs.Fold.{sum, sum_append}
 use Rattle.laws.specs.Cut.{lengths, lengths_append}
@@ -41,7 +41,7 @@ module _ (xs : List ℕ) (at n t : ℕ) (w : Walked xs at n t) where
     -- no range stands here
     walked_bad : parses (front_range (drop at xs)) ≡ false → false ≡ all_parse xs
     walked_bad p =
-        split-eq (block_count (drop at xs)) 0
+        split_eq (block_count (drop at xs)) 0
         (λ z. all_empty length_width most_entry_length xs at h w.parse z)
         (λ z. all_no length_width most_entry_length xs at (range_size (drop at xs)) h (omega arith) (omega arith) w.parse p)
 
@@ -52,7 +52,7 @@ module _ (xs : List ℕ) (at n t : ℕ) (w : Walked xs at n t) where
     -- one stands here where all parse
     pub walked_here : all_parse xs ≡ true → InFront (drop at xs)
     walked_here p =
-        split-bool (parses (front_range (drop at xs))) (λ q. q) (λ q. false-true (walked_bad q ∙ p))
+        split_bool (parses (front_range (drop at xs))) (λ q. q) (λ q. false_true (walked_bad q ∙ p))
 
     -- the next turn
     module _ (p : InFront (drop at xs)) (size e b : ℕ) (f : Fronted (drop at xs) size e b) where

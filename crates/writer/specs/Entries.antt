@@ -3,7 +3,7 @@ use Rattle.std.specs.Prelude.{ℕ, ◌≤◌, Bool, true, false, cond, ◌≡◌
 use Rattle.std.proofs.Math.Path.{sym, ap}
 use Rattle.std.proofs.Common.{◌∙◌, arith}
 use borrow.Author.Tests.{le-leb, leb-true, eqb-true, eqb-false}
-use Rattle.laws.specs.Choice.{also, ask, also_left, also_right, also_both, ask_yes, ask_holds, not_so, false-true, ruin}
+use Rattle.laws.specs.Choice.{also, ask, also_left, also_right, also_both, ask_yes, ask_holds, not_so, false_true, ruin}
 use Rattle.range.specs.Form.{most_entries, most_entry_length, length_width, used, blocks_for, blocks, Good}
 use Rattle.range.specs.Memory.{view, total, good_view, blocks_at_view}
 use Rattle.lengths.specs.Entries.{Entries, entries_ok, entries_held, entries_facts, facts_entries, entries_bytes, entries_nothing}
@@ -71,7 +71,7 @@ module _ (bytes lens : List ℕ) (n : ℕ) where
   sized_no h = ap sized_as (sym (not_so (range_ok bytes lens n) (λ e. h (range_facts e))))
 
   pub sized_unheld : held.Nothing ≡ entries_held (length bytes) lens 0 n → sized.Refused 4 ≡ sized_of bytes lens n
-  sized_unheld h = sized_no (λ f. false-true (sym (entries_nothing _ _ _ _ h) ∙ facts_entries _ _ _ _ f.held))
+  sized_unheld h = sized_no (λ f. false_true (sym (entries_nothing _ _ _ _ h) ∙ facts_entries _ _ _ _ f.held))
 
   pub sized_yes : (t b : ℕ) → 1 ≤ n → n ≤ most_entries → held.Bytes t ≡ entries_held (length bytes) lens 0 n → b ≡ blocks_for (used length_width n t)
       → sized.Range t b ≡ sized_of bytes lens n

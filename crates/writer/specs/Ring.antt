@@ -8,10 +8,10 @@ use native.Mathlib.Omega.{arith}
 use Rattle.std.proofs.Math.ListN.{length}
 use Rattle.std.proofs.lemmas.List.{length-replicate}
 use borrow.Author.Tests.{lt-ltb, le-ltb, le-leb, lt-leb, eqb-true, leb-true, ltb-true}
-use Rattle.laws.specs.Choice.{also, ask, and_then, unless, also_left, also_right, also_both, and_then_left, and_then_right, ask_yes, and_then_first, unless-kept, unless-done}
+use Rattle.laws.specs.Choice.{also, ask, and_then, unless, also_left, also_right, also_both, and_then_left, and_then_right, ask_yes, and_then_first, unless_kept, unless_done}
 use Rattle.laws.specs.Digits.{digits}
 use Rattle.laws.specs.Ring.{wrap, wrap_below}
-use Rattle.laws.specs.Around.{around, spliceAround, around_here, around_run}
+use Rattle.laws.specs.Around.{around, splice_around, around_here, around_run}
 use Rattle.layout.specs.Geometry.{block_size, most_blocks}
 use Rattle.laws.specs.LowFirst.{each_low}
 use Rattle.range.specs.Form.{most_entries, most_entry_length, length_width, head_size, used, blocks_for, blocks, encode, parse}
@@ -47,7 +47,7 @@ put_ok bytes lens n t all start =
 unfoldable pub put_range : List ℕ → List ℕ → ℕ → ℕ → List ℕ → ℕ → List ℕ
 put_range bytes lens n t journal start =
     cond (put_ok (length bytes) (length lens) n t (length journal / block_size) start)
-    (spliceAround journal (start * block_size) (range_from length_width bytes lens n t))
+    (splice_around journal (start * block_size) (range_from length_width bytes lens n t))
     journal
 
 -- all were answered yes
@@ -75,11 +75,11 @@ write_asked bytes lens n journal start e =
 
 -- what was written stands on the ring from its start on, and reads as the same entries
 module _ (bytes lens : List ℕ) (n : ℕ) (journal : List ℕ) (start : ℕ) (w : Writable bytes lens n journal start) where
-  pub write_there : around (spliceAround journal (start * block_size) (encode (view bytes lens n))) (start * block_size) (blocks (view bytes lens n) * block_size)
+  pub write_there : around (splice_around journal (start * block_size) (encode (view bytes lens n))) (start * block_size) (blocks (view bytes lens n) * block_size)
       ≡ encode (view bytes lens n)
   write_there =
       let long : length (encode (view bytes lens n)) ≡ blocks (view bytes lens n) * block_size = length_encode_at length_width (view bytes lens n) in
-      ap (around (spliceAround journal (start * block_size) (encode (view bytes lens n))) (start * block_size)) (sym long)
+      ap (around (splice_around journal (start * block_size) (encode (view bytes lens n))) (start * block_size)) (sym long)
       ∙ around_here journal (start * block_size) (encode (view bytes lens n)) (omega (arith, w.whole, w.inside)) (omega (arith, w.whole, w.holds, long))
 
   pub write_reads : parse (encode (view bytes lens n)) ≡ some (view bytes lens n)
@@ -87,9 +87,9 @@ module _ (bytes lens : List ℕ) (n : ℕ) (journal : List ℕ) (start : ℕ) (w
 
 -- the ways out of the questions
 module _ (bytes lens : List ℕ) (n : ℕ) (journal : List ℕ) (start : ℕ) where
-  pub write_journal : (q : ℕ) → q ≡ ask 1 (journal_ok (length journal)) → (q ≡ 0 → ⊥) → ask_write bytes lens n journal start ≡ q
+  pub write_journal_is : (q : ℕ) → q ≡ ask 1 (journal_ok (length journal)) → (q ≡ 0 → ⊥) → ask_write bytes lens n journal start ≡ q
   unfolding ask_write
-  write_journal q h k = and_then_first (ask 1 (journal_ok (length journal))) _ (λ e. k (h ∙ e)) ∙ sym h
+  write_journal_is q h k = and_then_first (ask 1 (journal_ok (length journal))) _ (λ e. k (h ∙ e)) ∙ sym h
 
   module _ (q : ℕ) (hq : q ≡ ask 1 (journal_ok (length journal))) (k : q ≡ 0) where
     whole : journal_ok (length journal) ≡ true
@@ -119,7 +119,7 @@ module _ (bytes lens : List ℕ) (n : ℕ) (journal : List ℕ) (start : ℕ) wh
 
 -- the journal after a refusal
 pub write_kept : (q k : ℕ) (x new : List ℕ) → q ≡ k → (k ≡ 0 → ⊥) → x ≡ unless q x new
-write_kept q k x new h l = sym (unless-kept q x new (λ e. l (sym h ∙ e)))
+write_kept q k x new h l = sym (unless_kept q x new (λ e. l (sym h ∙ e)))
 
 -- the numbers fit: b blocks, from the place `at` on
 pub record Puts (bytes lens : List ℕ) (n t b : ℕ) (journal : List ℕ) (at : ℕ) : Type 0 where
@@ -159,18 +159,18 @@ module _ (bytes lens : List ℕ) (n t : ℕ) (journal : List ℕ) (start : ℕ) 
   put_no e = sym (simp e)
 
   pub put_yes : (x : List ℕ) → put_ok (length bytes) (length lens) n t (length journal / block_size) start ≡ true
-      → x ≡ spliceAround journal (start * block_size) (range_from length_width bytes lens n t) → x ≡ put_range bytes lens n t journal start
+      → x ≡ splice_around journal (start * block_size) (range_from length_width bytes lens n t) → x ≡ put_range bytes lens n t journal start
   unfolding put_range
   put_yes x e h = h ∙ sym (simp e)
 
   -- of entries that make a range, counted by their lengths, it is the range of the entries
   pub put_view : Fits bytes lens n → t ≡ total lens n → start < length journal / block_size → blocks (view bytes lens n) ≤ length journal / block_size
-      → put_range bytes lens n t journal start ≡ spliceAround journal (start * block_size) (encode (view bytes lens n))
+      → put_range bytes lens n t journal start ≡ splice_around journal (start * block_size) (encode (view bytes lens n))
   unfolding put_range put_ok
   put_view f ht inside holds =
       simp ok
-      (ap (λ (k : ℕ). spliceAround journal (start * block_size) (range_from length_width bytes lens n k)) ht
-      ∙ ap (spliceAround journal (start * block_size)) (range_from_view length_width most_entry_length bytes lens n f.held.there f.held.fit))
+      (ap (λ (k : ℕ). splice_around journal (start * block_size) (range_from length_width bytes lens n k)) ht
+      ∙ ap (splice_around journal (start * block_size)) (range_from_view length_width most_entry_length bytes lens n f.held.there f.held.fit))
     where
       blocks_is : blocks_for (used length_width n t) ≡ blocks (view bytes lens n)
       blocks_is = ap (λ (k : ℕ). blocks_for (used length_width n k)) ht ∙ sym (fits_blocks bytes lens n f)
@@ -186,10 +186,10 @@ module _ (bytes lens : List ℕ) (n t : ℕ) (journal : List ℕ) (start : ℕ) 
 -- and so after the questions were answered yes
 pub write_put : (bytes lens : List ℕ) (n : ℕ) (journal : List ℕ) (start t : ℕ) (x : List ℕ) → ask_write bytes lens n journal start ≡ 0 → t ≡ total lens n
     → x ≡ put_range bytes lens n t journal start
-    → x ≡ unless (ask_write bytes lens n journal start) journal (spliceAround journal (start * block_size) (encode (view bytes lens n)))
+    → x ≡ unless (ask_write bytes lens n journal start) journal (splice_around journal (start * block_size) (encode (view bytes lens n)))
 write_put bytes lens n journal start t x q ht h =
     let w = write_asked bytes lens n journal start q in
-    h ∙ put_view bytes lens n t journal start w.entries ht w.inside w.holds ∙ sym (unless-done _ _ _ q)
+    h ∙ put_view bytes lens n t journal start w.entries ht w.inside w.holds ∙ sym (unless_done _ _ _ q)
 
 -- the low bytes of lengths are their bytes in a range
 low_lengths : (ns : List ℕ) → low_bytes ns ≡ each_low 1 ns
@@ -200,19 +200,19 @@ low_lengths (n ∷ ns) = ap (λ (l : List ℕ). n % 256 ∷ l) (low_lengths ns)
 -- the four runs as the code writes them: the head's four bytes, n lengths, t bytes of bodies, z zeros
 module _ (bytes lens : List ℕ) (n t b : ℕ) (journal : List ℕ) (at : ℕ) (r : Puts bytes lens n t b journal at) where
   pub put_runs : (h x1 x2 x3 x4 : List ℕ) (p4 z : ℕ) → h ≡ head b n → z + (head_size + n + t) ≡ b * block_size → p4 ≡ wrap (length journal) (at + head_size + n + t)
-      → x1 ≡ spliceAround journal at (take (length journal) (take (head_size - 0) h))
-      → x2 ≡ spliceAround x1 (at + head_size) (take (length x1) (low_bytes (take (n - 0) lens)))
-      → x3 ≡ spliceAround x2 (at + head_size + n) (take (length x2) (take (t - 0) bytes))
-      → x4 ≡ spliceAround x3 p4 (take (length x3) (replicate z 0))
-      → x4 ≡ spliceAround journal at (range_from length_width bytes lens n t)
+      → x1 ≡ splice_around journal at (take (length journal) (take (head_size - 0) h))
+      → x2 ≡ splice_around x1 (at + head_size) (take (length x1) (low_bytes (take (n - 0) lens)))
+      → x3 ≡ splice_around x2 (at + head_size + n) (take (length x2) (take (t - 0) bytes))
+      → x4 ≡ splice_around x3 p4 (take (length x3) (replicate z 0))
+      → x4 ≡ splice_around journal at (range_from length_width bytes lens n t)
   put_runs h x1 x2 x3 x4 p4 z hh hz h4 q1 q2 q3 q4 =
-      r4 ∙ (λ i. spliceAround journal at (head (r.fewest i) n ++ low_lengths (take n lens) i ++ take t bytes ++ replicate {A = ℕ} (zeros i) 0))
+      r4 ∙ (λ i. splice_around journal at (head (r.fewest i) n ++ low_lengths (take n lens) i ++ take t bytes ++ replicate {A = ℕ} (zeros i) 0))
     where
       in_room : at < length journal
       in_room = omega (arith, r.first_block)
 
-      used_in : head_size + n + t + z ≤ length journal
-      used_in = omega (arith, r.room, hz)
+      used_in_is : head_size + n + t + z ≤ length journal
+      used_in_is = omega (arith, r.room, hz)
 
       zeros : z ≡ blocks_for (used length_width n t) * block_size - used length_width n t
       zeros = omega (arith, hz, r.fewest)
@@ -235,29 +235,29 @@ module _ (bytes lens : List ℕ) (n t b : ℕ) (journal : List ℕ) (at : ℕ) (
       below : (k : ℕ) → k ≤ head_size + most_entries → at + k ≡ wrap (length journal) (at + k)
       below k l = sym (wrap_below (length journal) (at + k) (omega (arith, l, r.first_block)))
 
-      r1 : x1 ≡ spliceAround journal at (head b n)
+      r1 : x1 ≡ splice_around journal at (head b n)
       r1 =
           q1
-          ∙ ap (λ (l : List ℕ). spliceAround journal at (take (length journal) l)) (take_all (head_size - 0) h (omega (arith, ap length hh, long1)) ∙ hh)
-          ∙ ap (spliceAround journal at) (take_all (length journal) (head b n) (omega (arith, long1, r.first_block)))
+          ∙ ap (λ (l : List ℕ). splice_around journal at (take (length journal) l)) (take_all (head_size - 0) h (omega (arith, ap length hh, long1)) ∙ hh)
+          ∙ ap (splice_around journal at) (take_all (length journal) (head b n) (omega (arith, long1, r.first_block)))
 
-      r2 : x2 ≡ spliceAround journal at (head b n ++ low_bytes (take n lens))
+      r2 : x2 ≡ splice_around journal at (head b n ++ low_bytes (take n lens))
       r2 =
-          around_run journal x1 x2 (head b n) (low_bytes (take n lens)) at (at + head_size) in_room (omega (arith, long1, low, used_in)) r1
+          around_run journal x1 x2 (head b n) (low_bytes (take n lens)) at (at + head_size) in_room (omega (arith, long1, low, used_in_is)) r1
           (below head_size (omega arith) ∙ ap (λ (k : ℕ). wrap (length journal) (at + k)) (sym long1))
-          (q2 ∙ ap (λ (k : ℕ). spliceAround x1 (at + head_size) (take (length x1) (low_bytes (take k lens)))) (sub-zero n))
+          (q2 ∙ ap (λ (k : ℕ). splice_around x1 (at + head_size) (take (length x1) (low_bytes (take k lens)))) (sub-zero n))
 
-      r3 : x3 ≡ spliceAround journal at (head b n ++ low_bytes (take n lens) ++ take t bytes)
+      r3 : x3 ≡ splice_around journal at (head b n ++ low_bytes (take n lens) ++ take t bytes)
       r3 =
           let e : at + head_size + n ≡ at + (head_size + n) = omega arith in
-          around_run journal x2 x3 (head b n ++ low_bytes (take n lens)) (take t bytes) at (at + head_size + n) in_room (omega (arith, long2, bodies, used_in)) r2
+          around_run journal x2 x3 (head b n ++ low_bytes (take n lens)) (take t bytes) at (at + head_size + n) in_room (omega (arith, long2, bodies, used_in_is)) r2
           (e ∙ below (head_size + n) (omega (arith, r.few)) ∙ ap (λ (k : ℕ). wrap (length journal) (at + k)) (sym long2))
-          (q3 ∙ ap (λ (k : ℕ). spliceAround x2 (at + head_size + n) (take (length x2) (take k bytes))) (sub-zero t))
+          (q3 ∙ ap (λ (k : ℕ). splice_around x2 (at + head_size + n) (take (length x2) (take k bytes))) (sub-zero t))
 
-      r4 : x4 ≡ spliceAround journal at (head b n ++ low_bytes (take n lens) ++ take t bytes ++ replicate z 0)
+      r4 : x4 ≡ splice_around journal at (head b n ++ low_bytes (take n lens) ++ take t bytes ++ replicate z 0)
       r4 =
           let e : at + head_size + n + t ≡ at + (head_size + n + t) = omega arith in
           around_run journal x3 x4 (head b n ++ low_bytes (take n lens) ++ take t bytes) (replicate z 0) at p4 in_room
-          (omega (arith, long3, length-replicate {A = ℕ} z 0, used_in)) r3
+          (omega (arith, long3, length-replicate {A = ℕ} z 0, used_in_is)) r3
           (h4 ∙ ap (wrap (length journal)) e ∙ ap (λ (k : ℕ). wrap (length journal) (at + k)) (sym long3))
           q4

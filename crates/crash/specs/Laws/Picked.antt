@@ -9,21 +9,21 @@ use native.Mathlib.Omega.{arith}
 use Rattle.std.proofs.lemmas.Bool.{lt-leb}
 use Rattle.std.proofs.Math.ListN.{get_or, length-take, length-drop, get_or-eq_default}
 use Rattle.std.proofs.Math.Seq.{get_or-take, get_or-drop}
-use Rattle.laws.specs.Choice.{also, also_both, also_false, false_also, either, split-le, split-bool}
+use Rattle.laws.specs.Choice.{also, also_both, also_false, false_also, either, split_le, split_bool}
 use Rattle.laws.specs.Fold.{every, every_at, every_all}
-use Rattle.laws.specs.Part.{length-tab, getD-tab, tab-same, get_d_any}
+use Rattle.laws.specs.Part.{length_tab, get_d_tab, tab_same, get_d_any}
 use Rattle.laws.specs.Splice.{splice, clipped, clipped_past, length_clipped, get_d_splice_before, get_d_splice_here, get_d_splice_after}
 use Rattle.crash.specs.Picture.{picked}
 
 module _ (test : ℕ → Bool) (new old : List ℕ) where
   pub length_picked : length (picked test new old) ≡ length old
   unfolding picked
-  length_picked = length-tab (length old) (λ p. cond (test p) (get_or new p (get_or old p 0)) (get_or old p 0))
+  length_picked = length_tab (length old) (λ p. cond (test p) (get_or new p (get_or old p 0)) (get_or old p 0))
 
   -- an element: as it is defined, where it is the new one, and where it is the old one
   pub get_d_picked : (p : ℕ) → p < length old → get_or (picked test new old) p 0 ≡ cond (test p) (get_or new p (get_or old p 0)) (get_or old p 0)
   unfolding picked
-  get_d_picked p h = getD-tab (length old) (λ p. cond (test p) (get_or new p (get_or old p 0)) (get_or old p 0)) p 0 h
+  get_d_picked p h = get_d_tab (length old) (λ p. cond (test p) (get_or new p (get_or old p 0)) (get_or old p 0)) p 0 h
 
   pub picked_new : (p : ℕ) → p < length old → p < length new → test p ≡ true → get_or (picked test new old) p 0 ≡ get_or new p 0
   picked_new p h k e =
@@ -49,7 +49,7 @@ picked_every f test new old en eo =
   where
     there : (p x : ℕ) → f x ≡ true → f (get_or new p x) ≡ true
     there p x e =
-        split-le (length new) p
+        split_le (length new) p
         (λ k. ap f (get_or-eq_default new x k) ∙ e)
         (λ k. every_at f new p x en k)
 
@@ -61,7 +61,7 @@ picked_every f test new old en eo =
 pub picked_same : (f h : ℕ → Bool) (new old : List ℕ) → ((p : ℕ) → p < length old → f p ≡ h p) → picked f new old ≡ picked h new old
 unfolding picked
 picked_same f h new old e =
-    tab-same (length old) (λ p. cond (f p) (get_or new p (get_or old p 0)) (get_or old p 0)) (λ p. cond (h p) (get_or new p (get_or old p 0)) (get_or old p 0))
+    tab_same (length old) (λ p. cond (f p) (get_or new p (get_or old p 0)) (get_or old p 0)) (λ p. cond (h p) (get_or new p (get_or old p 0)) (get_or old p 0))
     (λ p l i. cond (e p l i) (get_or new p (get_or old p 0)) (get_or old p 0))
 
 -- a list picked from itself
@@ -70,7 +70,7 @@ picked_own test old =
     ext_get_or 0 (picked test old old) old (length_picked test old old)
     (λ p l.
     let h : p < length old = omega (arith, l, length_picked test old old) in
-    split-bool (test p)
+    split_bool (test p)
     (λ e. picked_new test old old p h h e)
     (λ e. picked_old test old old p h e))
 
@@ -124,17 +124,17 @@ module _ (src dst : List ℕ) (at n p : ℕ) (h : p < length dst) where
       let v = length-take n (drop at src) in
       let u = length-drop at src in
       get_d_splice_after dst at run p 0 (omega arith) (omega arith)
-      ∙ split-le (at + n) p
+      ∙ split_le (at + n) p
       (λ m. sym (ap chosen (run_after at n p m)))
       (λ m. past (omega (arith, m, l, w, v, u)) (in_run at n p))
 
   pub get_d_copied : get_or (clipped dst at (take n (drop at src))) p 0 ≡ cond (in_run at n p) (get_or src p (get_or dst p 0)) (get_or dst p 0)
   unfolding clipped chosen
   get_d_copied =
-      split-le at p
-      (λ k. split-le (length run) (p - at) (after k) (here k))
+      split_le at p
+      (λ k. split_le (length run) (p - at) (after k) (here k))
       (λ k.
-      split-le at (length dst)
+      split_le at (length dst)
       (λ l. get_d_splice_before dst at (take (length dst - at) (take n (drop at src))) p 0 k l)
       (λ l. ap (λ (x : List ℕ). get_or x p 0) (clipped_past dst at (take n (drop at src)) (omega arith)))
       ∙ sym (ap chosen (run_before at n p k)))
@@ -160,7 +160,7 @@ picked_run test new old at n =
 
     twice : (p x : ℕ) → get_or new p (get_or new p x) ≡ get_or new p x
     twice p x =
-        split-le (length new) p
+        split_le (length new) p
         (λ k. get_or-eq_default new (get_or new p x) k)
         (λ k. get_d_any new p (get_or new p x) x k)
 

@@ -9,7 +9,7 @@ use Rattle.std.proofs.Math.Logic.{⊎_elim}
 use native.Mathlib.Omega.{arith}
 use borrow.Author.Tests.{leb-true, ltb-true, le-leb, lt-ltb}
 use Rattle.std.proofs.Math.ListN.{length-take}
-use Rattle.laws.specs.Choice.{also_left, also_right, also_both, either, either_left, either_right, either_cases, same_test, false-true}
+use Rattle.laws.specs.Choice.{also_left, also_right, also_both, either, either_left, either_right, either_cases, same_test, false_true}
 use Rattle.laws.specs.Part.{take_step}
 use Rattle.interval.specs.declared.JournalInterval.{JournalInterval}
 use Rattle.tables.specs.declared.IntervalTable.{IntervalTable}
@@ -78,7 +78,7 @@ module _ (p : ℕ) where
 
   rows_some : (vs : List JournalInterval) (d : JournalInterval) → in_rows vs p ≡ true → (k : ℕ) × (k < length vs) × (in_row (get_or vs k d) p ≡ true)
   unfolding in_rows
-  rows_some [] d e = false-true e
+  rows_some [] d e = false_true e
   rows_some (v ∷ vs) d e =
       ⊎_elim
       (λ h. (0, omega arith, h))

@@ -2,9 +2,9 @@
 use Rattle.std.specs.Prelude.{ℕ, ◌≡◌, List, replicate}
 use Rattle.std.proofs.Math.Path.{sym}
 use Rattle.std.proofs.Common.{◌∙◌, ap, arith}
-use Rattle.laws.specs.Choice.{and_then, and_then_left, and_then_right, and_then_both, and_then_done, and_then_first, unless, unless_same, split-eq}
+use Rattle.laws.specs.Choice.{and_then, and_then_left, and_then_right, and_then_both, and_then_done, and_then_first, unless, unless_same, split_eq}
 use Rattle.laws.specs.Maps.{Values}
-use Rattle.laws.specs.Sets.{Map, Distinct, none-some}
+use Rattle.laws.specs.Sets.{Map, Distinct, none_some}
 use Rattle.layout.specs.declared.Geometry.{Geometry}
 use Rattle.interval.specs.declared.JournalInterval.{JournalInterval}
 use Rattle.interval.specs.Facts.{ContiguousJournalInterval}
@@ -13,7 +13,7 @@ use Rattle.journal.specs.Asked.{journal_blocks, journal_marks, asked_journal}
 use Rattle.tables.specs.declared.IntervalTable.{IntervalTable}
 use Rattle.tables.specs.Rows.{Counted}
 use Rattle.tables.specs.IntervalTable.{interval_map, no_intervals}
-use Rattle.tables.specs.Laws.IntervalTables.{intervals_empty, sized_no_intervals, facts_valid}
+use Rattle.tables.proofs.Laws.IntervalTables.{intervals_empty, sized_no_intervals, facts_valid}
 use Rattle.requests.specs.declared.Slots.{Slots}
 use Rattle.disk.specs.declared.Disk.{Disk}
 use Rattle.disk.specs.Disk.{idle_disk}
@@ -44,9 +44,9 @@ idle_ok g slots =
     record {
       reads1 = no_rows 8;
       reads2 = no_rows 8;
-      journal_reads = no_rows 8;
+      journal_reads_is = no_rows 8;
       reads_valid = facts_valid no_intervals g sized_no_intervals 8 (no_rows 8) none_wrong;
-      journal_writes = no_rows 16;
+      journal_writes_is = no_rows 16;
       writes_valid = facts_valid no_intervals g sized_no_intervals 16 (no_rows 16) none_wrong;
     }
   where
@@ -54,12 +54,12 @@ idle_ok g slots =
     no_rows most = record { few = omega arith; in_array = omega arith; differ = tt }
 
     none_wrong : Values (ContiguousJournalInterval g) (interval_map no_intervals)
-    none_wrong id v e = none-some (ap (λ (m : Map JournalInterval). m id) intervals_empty) e
+    none_wrong id v e = none_some (ap (λ (m : Map JournalInterval). m id) intervals_empty) e
 
 pub crash_passes : (g : Geometry) (d : Disk) (picture pictured blocks marks : List ℕ) → ask_crash g d picture pictured blocks marks ≡ 0
-    → ask_disk g (crashed_disk d) (crashed_blocks d.journal_writes picture blocks) (crashed_marks d.journal_writes pictured marks) ≡ 0
+    → ask_disk g (crashed_disk d) (crashed_blocks d.journalWrites picture blocks) (crashed_marks d.journalWrites pictured marks) ≡ 0
 crash_passes g d picture pictured blocks marks e =
-    let t : IntervalTable = d.journal_writes in
+    let t : IntervalTable = d.journalWrites in
     let j = disk_journal g d blocks marks (crash_disk g d picture pictured blocks marks e) in
     let b = journal_blocks g blocks marks j in
     let m = journal_marks g blocks marks j in
@@ -72,7 +72,7 @@ crash_passes g d picture pictured blocks marks e =
 
 -- a question asked twice
 pub asked_twice : (q r : ℕ) → and_then q (and_then q r) ≡ and_then q r
-asked_twice q r = split-eq q 0 (λ h. and_then_done q (and_then q r) h) (λ h. and_then_first q (and_then q r) h ∙ sym (and_then_first q r h))
+asked_twice q r = split_eq q 0 (λ h. and_then_done q (and_then q r) h) (λ h. and_then_first q (and_then q r) h ∙ sym (and_then_first q r h))
 
 -- the disk's own content for the picture: the questions are the disk's, and lent memory stays as it is, refused or not
 module _ (g : Geometry) (d : Disk) (blocks marks : List ℕ) where
@@ -82,8 +82,8 @@ module _ (g : Geometry) (d : Disk) (blocks marks : List ℕ) where
 
   pub own_crash_blocks : crash_blocks g d blocks marks blocks marks ≡ blocks
   own_crash_blocks =
-      ap (unless (ask_crash g d blocks marks blocks marks) blocks) (own_blocks d.journal_writes blocks) ∙ sym (unless_same (ask_crash g d blocks marks blocks marks) blocks)
+      ap (unless (ask_crash g d blocks marks blocks marks) blocks) (own_blocks d.journalWrites blocks) ∙ sym (unless_same (ask_crash g d blocks marks blocks marks) blocks)
 
   pub own_crash_marks : crash_marks g d blocks marks blocks marks ≡ marks
   own_crash_marks =
-      ap (unless (ask_crash g d blocks marks blocks marks) marks) (own_marks d.journal_writes marks) ∙ sym (unless_same (ask_crash g d blocks marks blocks marks) marks)
+      ap (unless (ask_crash g d blocks marks blocks marks) marks) (own_marks d.journalWrites marks) ∙ sym (unless_same (ask_crash g d blocks marks blocks marks) marks)

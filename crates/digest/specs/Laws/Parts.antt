@@ -42,9 +42,9 @@ takes_superblock h s p q r u v =
     (takes_then h counter start p q) r) u) v
 
 -- a slot
-pub slot_holds : (h : ℕ) (s : MaybeSuperblock) (x : Superblock) {r : ℕ} → s ≡ slot.Holds x → r ≡ takes h (superblock_bytes x) → r ≡ takes h (slot_bytes s)
+pub slot_holds_is : (h : ℕ) (s : MaybeSuperblock) (x : Superblock) {r : ℕ} → s ≡ slot.Holds x → r ≡ takes h (superblock_bytes x) → r ≡ takes h (slot_bytes s)
 unfolding slot_bytes
-slot_holds h s x e f = f ∙ ap (λ (y : MaybeSuperblock). takes h (slot_bytes y)) (sym e)
+slot_holds_is h s x e f = f ∙ ap (λ (y : MaybeSuperblock). takes h (slot_bytes y)) (sym e)
 
 pub slot_empty : (h : ℕ) (s : MaybeSuperblock) → s ≡ slot.Empty → h ≡ takes h (slot_bytes s)
 unfolding slot_bytes takes
@@ -73,9 +73,9 @@ module _ (h : ℕ) (p : Piece) (pieces : List ℕ) (from count : ℕ) where
       ∙ ap (takes h) (part_cut pieces (from * 4096) (count * 4096) at size size a s refl)
       ∙ ap (λ (q : Piece). takes h (piece_bytes q pieces from count)) (sym e)
 
-  pub piece_unread : p ≡ piece.Unread → h ≡ takes h (piece_bytes p pieces from count)
+  pub piece_unread_is : p ≡ piece.Unread → h ≡ takes h (piece_bytes p pieces from count)
   unfolding piece_bytes takes
-  piece_unread e = ap (λ (q : Piece). takes h (piece_bytes q pieces from count)) (sym e)
+  piece_unread_is e = ap (λ (q : Piece). takes h (piece_bytes q pieces from count)) (sym e)
 
   pub piece_reading : (id : ℕ) → p ≡ piece.Reading id → h ≡ takes h (piece_bytes p pieces from count)
   unfolding piece_bytes takes

@@ -3,7 +3,7 @@ use Rattle.std.specs.Prelude.{ℕ, Bool, true, false, cond, ◌≡◌, refl, Lis
 use Rattle.std.proofs.Math.Path.{sym, ap}
 use Rattle.std.proofs.Common.{◌∙◌}
 use Rattle.std.proofs.Math.Logic.{⊎_elim}
-use Rattle.laws.specs.Choice.{and_then, and_then_first, and_then_done, unless, unless-kept, unless-done, refused-said, asked_yes, asked_no, asked_either, ruin}
+use Rattle.laws.specs.Choice.{and_then, and_then_first, and_then_done, unless, unless_kept, unless_done, refused_said, asked_yes, asked_no, asked_either, ruin}
 use Rattle.interval.specs.declared.JournalInterval.{JournalInterval}
 use Rattle.superblock.specs.declared.SuperblockRead.{SuperblockRead}
 use Rattle.superblock.specs.declared.JournalRead.{JournalRead}
@@ -25,14 +25,14 @@ use Rattle.disk.specs.Operation.{is_whole, as_stepped}
 module _ (k q : ℕ) (e : k ≡ q) where
   pub answered_no : (next d : Disk) → (k ≡ 0 → ⊥) → refused d k ≡ answered q next d
   unfolding answered
-  answered_no next d h = refused-said k q (done next) (refused d) e h
+  answered_no next d h = refused_said k q (done next) (refused d) e h
 
   pub answered_yes : (x next d : Disk) → k ≡ 0 → x ≡ next → done x ≡ answered q next d
   unfolding answered
   answered_yes x next d h p = ap done p ∙ sym (asked_yes q (done next) (refused d q) (sym e ∙ h))
 
   pub changed : (x old new : List ℕ) → k ≡ 0 → x ≡ new → x ≡ unless q old new
-  changed x old new h p = p ∙ sym (unless-done q old new (sym e ∙ h))
+  changed x old new h p = p ∙ sym (unless_done q old new (sym e ∙ h))
 
 -- two questions in a row: a no to the first, and a yes
 module _ (k q r : ℕ) (e : k ≡ q) where
@@ -51,7 +51,7 @@ module _ (k q r : ℕ) (e : k ≡ q) where
   pub superblock_first : (v : SuperblockRead) (next d : Disk) → (k ≡ 0 → ⊥) → superblock_refused d k ≡ superblock_answered (and_then q r) v next d
   unfolding superblock_answered
   superblock_first v next d h =
-      refused-said k (and_then q r) (record { answer = superblockAnswer.Read v; disk = next }) (superblock_refused d) (first_is h) h
+      refused_said k (and_then q r) (record { answer = superblockAnswer.Read v; disk = next }) (superblock_refused d) (first_is h) h
 
   pub superblock_next : (v : SuperblockRead) (next d : Disk) (x : SuperblockAcked) → k ≡ 0 → x ≡ superblock_answered r v next d → x ≡ superblock_answered (and_then q r) v next d
   superblock_next v next d x h p = p ∙ ap (λ (n : ℕ). superblock_answered n v next d) (next_is h)
@@ -59,14 +59,14 @@ module _ (k q r : ℕ) (e : k ≡ q) where
   pub journal_first : (v : JournalInterval) (next d : Disk) → (k ≡ 0 → ⊥) → journal_refused d k ≡ journal_answered (and_then q r) v next d
   unfolding journal_answered
   journal_first v next d h =
-      refused-said k (and_then q r) (record { answer = journalAnswer.Read v; disk = next }) (journal_refused d) (first_is h) h
+      refused_said k (and_then q r) (record { answer = journalAnswer.Read v; disk = next }) (journal_refused d) (first_is h) h
 
   pub journal_next : (v : JournalInterval) (next d : Disk) (x : JournalAcked) → k ≡ 0 → x ≡ journal_answered r v next d → x ≡ journal_answered (and_then q r) v next d
   journal_next v next d x h p = p ∙ ap (λ (n : ℕ). journal_answered n v next d) (next_is h)
 
   -- lent memory
   pub kept_first : (old new : List ℕ) → (k ≡ 0 → ⊥) → old ≡ unless (and_then q r) old new
-  kept_first old new h = sym (unless-kept (and_then q r) old new (λ z. h (first_is h ∙ z)))
+  kept_first old new h = sym (unless_kept (and_then q r) old new (λ z. h (first_is h ∙ z)))
 
   pub kept_next : (x old new : List ℕ) → k ≡ 0 → x ≡ unless r old new → x ≡ unless (and_then q r) old new
   kept_next x old new h p = p ∙ ap (λ (n : ℕ). unless n old new) (next_is h)
@@ -118,15 +118,15 @@ module _ (q : ℕ) (v : SuperblockRead) (next d : Disk) where
 
 -- the answer of a journal read tells it too, and the interval
 module _ (q : ℕ) (v : JournalInterval) (next d : Disk) (r : JournalAcked) (e : r ≡ journal_answered q v next d) where
-  pub journal_refused : (n : ℕ) → r.answer ≡ journalAnswer.Refused n → q ≡ 0 → ⊥
+  pub journal_refused_is : (n : ℕ) → r.answer ≡ journalAnswer.Refused n → q ≡ 0 → ⊥
   unfolding journal_answered
-  journal_refused n h z =
+  journal_refused_is n h z =
       let p : r ≡ record { answer = journalAnswer.Read v; disk = next } = e ∙ asked_yes q (record { answer = journalAnswer.Read v; disk = next }) (journal_refused d q) z in
       ruin (cc)
 
-  pub journal_read : (u : JournalInterval) → r.answer ≡ journalAnswer.Read u → (q ≡ 0) × (u ≡ v)
+  pub journal_read_is : (u : JournalInterval) → r.answer ≡ journalAnswer.Read u → (q ≡ 0) × (u ≡ v)
   unfolding journal_answered
-  journal_read u h =
+  journal_read_is u h =
       ⊎_elim
       (λ y. let p = y.1 in (y.0, cc))
       (λ n. let p = n.1 in ruin (cc))
@@ -135,8 +135,8 @@ module _ (q : ℕ) (v : JournalInterval) (next d : Disk) (r : JournalAcked) (e :
   pub copied : (u : JournalInterval) (whole : Bool) (x blocks out : List ℕ) → r.answer ≡ journalAnswer.Read u → x ≡ read_out whole u blocks out
       → x ≡ unless q out (read_out whole v blocks out)
   copied u whole x blocks out h p =
-      let k = journal_read u h in
-      p ∙ ap (λ (w : JournalInterval). read_out whole w blocks out) k.1 ∙ sym (unless-done q out (read_out whole v blocks out) k.0)
+      let k = journal_read_is u h in
+      p ∙ ap (λ (w : JournalInterval). read_out whole w blocks out) k.1 ∙ sym (unless_done q out (read_out whole v blocks out) k.0)
 
 pub asked_journal_read : (q : ℕ) (v : JournalInterval) (next d : Disk) → q ≡ 0 → journal_answered q v next d ≡ record { answer = journalAnswer.Read v; disk = next }
 unfolding journal_answered
@@ -146,7 +146,7 @@ pub journal_same : (q : ℕ) (v : JournalInterval) (next d : Disk) (n : ℕ) →
 unfolding journal_answered
 journal_same q v next d n e =
     ap (λ (r : JournalAcked). r.disk)
-    (asked_no q (record { answer = journalAnswer.Read v; disk = next }) (journal_refused d q) (journal_refused q v next d (journal_answered q v next d) refl n e))
+    (asked_no q (record { answer = journalAnswer.Read v; disk = next }) (journal_refused d q) (journal_refused_is q v next d (journal_answered q v next d) refl n e))
 
 -- the same as an operation's
 stepped_as : (q : ℕ) (v : JournalInterval) (next d : Disk) → as_stepped (journal_answered q v next d) ≡ answered q next d

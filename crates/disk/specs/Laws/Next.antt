@@ -15,52 +15,52 @@ use Rattle.requests.specs.Slots.{reads_at, put_reads, put_write, slot_at, write_
 use Rattle.requests.specs.Receive.{write_received}
 use Rattle.disk.specs.Next.{recv_read_superblock_next, recv_read_journal_next, recv_write_superblock_next, recv_write_journal_next, ack_read_superblock_next, ack_read_journal_next, ack_write_superblock_next, ack_write_journal_next, land_next}
 use Rattle.requests.specs.Landing.{landing_on}
-use Rattle.requests.specs.Laws.Receive.{read_received}
-use Rattle.requests.specs.Laws.Acknowledge.{read_acked, interval_left}
-use Rattle.requests.specs.Laws.Landing.{slots_landed}
+use Rattle.requests.specs.Laws.Receive.{read_received_is}
+use Rattle.requests.specs.Laws.Acknowledge.{read_acked_is, interval_left_is}
+use Rattle.requests.specs.Laws.Landing.{slots_landed_is}
 
-pub recv_read_superblock_next : (d : Disk) (which id : ℕ)
-    → recv_read_superblock_next d which id ≡ with_superblock_reads d (put_reads d.superblock_reads which (added_id (reads_at d.superblock_reads which) id))
+pub recv_read_superblock_next_is : (d : Disk) (which id : ℕ)
+    → recv_read_superblock_next d which id ≡ with_superblock_reads d (put_reads d.superblockReads which (added_id (reads_at d.superblockReads which) id))
 unfolding recv_read_superblock_next
-recv_read_superblock_next d which id = ap (with_superblock_reads d) (read_received d.superblock_reads which id)
+recv_read_superblock_next_is d which id = ap (with_superblock_reads d) (read_received_is d.superblockReads which id)
 
-pub recv_read_journal_next : (d : Disk) (id : ℕ) (v : JournalInterval) → recv_read_journal_next d id v ≡ with_journal_reads d (added_interval d.journal_reads id v)
+pub recv_read_journal_next_is : (d : Disk) (id : ℕ) (v : JournalInterval) → recv_read_journal_next d id v ≡ with_journal_reads d (added_interval d.journalReads id v)
 unfolding recv_read_journal_next
-recv_read_journal_next d id v = refl
+recv_read_journal_next_is d id v = refl
 
-pub recv_write_superblock_next : (d : Disk) (which id : ℕ) (s : Superblock)
+pub recv_write_superblock_next_is : (d : Disk) (which id : ℕ) (s : Superblock)
     → recv_write_superblock_next d which id s ≡ with_superblock_writes d (put_write d.superblockWrites which (write.Writing id s))
 unfolding recv_write_superblock_next
-recv_write_superblock_next d which id s = refl
+recv_write_superblock_next_is d which id s = refl
 
-pub recv_write_journal_next : (g : Geometry) (d : Disk) (id1 : ℕ) (id2 : MaybeId) (v : JournalInterval)
-    → recv_write_journal_next g d id1 id2 v ≡ with_journal_writes d (write_received g d.journal_writes id1 id2 v)
+pub recv_write_journal_next_is : (g : Geometry) (d : Disk) (id1 : ℕ) (id2 : MaybeId) (v : JournalInterval)
+    → recv_write_journal_next g d id1 id2 v ≡ with_journal_writes d (write_received g d.journalWrites id1 id2 v)
 unfolding recv_write_journal_next
-recv_write_journal_next g d id1 id2 v = refl
+recv_write_journal_next_is g d id1 id2 v = refl
 
-pub ack_read_superblock_next : (d : Disk) (which id : ℕ)
+pub ack_read_superblock_next_is : (d : Disk) (which id : ℕ)
     → ack_read_superblock_next d which id
     ≡ with_superblock_reads d
-    (put_reads d.superblock_reads which
-    (removed_id (reads_at d.superblock_reads which) (place_of id (take (reads_at d.superblock_reads which).count (reads_at d.superblock_reads which).ids))))
+    (put_reads d.superblockReads which
+    (removed_id (reads_at d.superblockReads which) (place_of id (take (reads_at d.superblockReads which).count (reads_at d.superblockReads which).ids))))
 unfolding ack_read_superblock_next
-ack_read_superblock_next d which id = ap (with_superblock_reads d) (read_acked d.superblock_reads which id)
+ack_read_superblock_next_is d which id = ap (with_superblock_reads d) (read_acked_is d.superblockReads which id)
 
-pub ack_read_journal_next : (d : Disk) (id : ℕ)
-    → ack_read_journal_next d id ≡ with_journal_reads d (removed_interval d.journal_reads (place_of id (take d.journal_reads.count d.journal_reads.ids)))
+pub ack_read_journal_next_is : (d : Disk) (id : ℕ)
+    → ack_read_journal_next d id ≡ with_journal_reads d (removed_interval d.journalReads (place_of id (take d.journalReads.count d.journalReads.ids)))
 unfolding ack_read_journal_next
-ack_read_journal_next d id = ap (with_journal_reads d) (interval_left d.journal_reads id)
+ack_read_journal_next_is d id = ap (with_journal_reads d) (interval_left_is d.journalReads id)
 
-pub ack_write_superblock_next : (d : Disk) (which : ℕ) → ack_write_superblock_next d which ≡ with_superblock_writes d (put_write d.superblockWrites which write.NoWrite)
+pub ack_write_superblock_next_is : (d : Disk) (which : ℕ) → ack_write_superblock_next d which ≡ with_superblock_writes d (put_write d.superblockWrites which write.NoWrite)
 unfolding ack_write_superblock_next
-ack_write_superblock_next d which = refl
+ack_write_superblock_next_is d which = refl
 
-pub ack_write_journal_next : (d : Disk) (id : ℕ)
-    → ack_write_journal_next d id ≡ with_journal_writes d (removed_interval d.journal_writes (place_of id (take d.journal_writes.count d.journal_writes.ids)))
+pub ack_write_journal_next_is : (d : Disk) (id : ℕ)
+    → ack_write_journal_next d id ≡ with_journal_writes d (removed_interval d.journalWrites (place_of id (take d.journalWrites.count d.journalWrites.ids)))
 unfolding ack_write_journal_next
-ack_write_journal_next d id = ap (with_journal_writes d) (interval_left d.journal_writes id)
+ack_write_journal_next_is d id = ap (with_journal_writes d) (interval_left_is d.journalWrites id)
 
-pub land_next : (d : Disk) (which : ℕ)
+pub land_next_is : (d : Disk) (which : ℕ)
     → land_next d which ≡ with_slots d (put_slot d.slots which (landing_on (slot_at d.slots which) (write_at d.superblockWrites which)))
 unfolding land_next
-land_next d which = ap (with_slots d) (slots_landed d.slots d.superblockWrites which)
+land_next_is d which = ap (with_slots d) (slots_landed_is d.slots d.superblockWrites which)

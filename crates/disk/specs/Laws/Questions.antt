@@ -6,19 +6,19 @@ use Rattle.layout.specs.declared.Geometry.{Geometry}
 use Rattle.journal.specs.Memory.{ask_blocks, ask_journal}
 use Rattle.tables.specs.Rows.{Counted}
 use Rattle.tables.specs.IntervalTable.{valid_intervals}
-use Rattle.tables.specs.Laws.Counts.{counted_facts, facts_counted}
+use Rattle.tables.proofs.Laws.Counts.{counted_facts, facts_counted}
 use Rattle.disk.specs.declared.Disk.{Disk}
 use Rattle.requests.specs.Limits.{most_superblock_reads, most_journal_reads, most_journal_writes}
 use Rattle.disk.specs.Questions.{reads_ok, intervals_ok, disk_ok, ask_state, ask_disk, ask_disk_out}
 
 -- question 2 by its parts
 pub record DiskOk (g : Geometry) (d : Disk) : Type 0 where
-  pub reads1 : Counted most_superblock_reads d.superblock_reads.first.count d.superblock_reads.first.ids
-  pub reads2 : Counted most_superblock_reads d.superblock_reads.second.count d.superblock_reads.second.ids
-  pub journal_reads : Counted most_journal_reads d.journal_reads.count d.journal_reads.ids
-  pub reads_valid : valid_intervals g d.journal_reads ≡ true
-  pub journal_writes : Counted most_journal_writes d.journal_writes.count d.journal_writes.ids
-  pub writes_valid : valid_intervals g d.journal_writes ≡ true
+  pub reads1 : Counted most_superblock_reads d.superblockReads.first.count d.superblockReads.first.ids
+  pub reads2 : Counted most_superblock_reads d.superblockReads.second.count d.superblockReads.second.ids
+  pub journal_reads_is : Counted most_journal_reads d.journalReads.count d.journalReads.ids
+  pub reads_valid : valid_intervals g d.journalReads ≡ true
+  pub journal_writes_is : Counted most_journal_writes d.journalWrites.count d.journalWrites.ids
+  pub writes_valid : valid_intervals g d.journalWrites ≡ true
 
 module _ (g : Geometry) (d : Disk) where
   pub disk_facts : disk_ok g d ≡ true → DiskOk g d
@@ -30,9 +30,9 @@ module _ (g : Geometry) (d : Disk) where
       record {
         reads1 = counted_facts _ _ _ (also_left _ _ r);
         reads2 = counted_facts _ _ _ (also_right _ _ r);
-        journal_reads = counted_facts _ _ _ (also_left _ _ j);
+        journal_reads_is = counted_facts _ _ _ (also_left _ _ j);
         reads_valid = also_right _ _ j;
-        journal_writes = counted_facts _ _ _ (also_left _ _ w);
+        journal_writes_is = counted_facts _ _ _ (also_left _ _ w);
         writes_valid = also_right _ _ w;
       }
 
@@ -40,8 +40,8 @@ module _ (g : Geometry) (d : Disk) where
   unfolding disk_ok reads_ok intervals_ok
   facts_disk f =
       also_both _ _ (also_both _ _ (facts_counted _ _ _ f.reads1) (facts_counted _ _ _ f.reads2))
-      (also_both _ _ (also_both _ _ (facts_counted _ _ _ f.journal_reads) f.reads_valid)
-      (also_both _ _ (facts_counted _ _ _ f.journal_writes) f.writes_valid))
+      (also_both _ _ (also_both _ _ (facts_counted _ _ _ f.journal_reads_is) f.reads_valid)
+      (also_both _ _ (facts_counted _ _ _ f.journal_writes_is) f.writes_valid))
 
   pub state_asked : ask_state g d ≡ 0 → DiskOk g d
   unfolding ask_state

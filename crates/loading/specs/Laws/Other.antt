@@ -5,14 +5,14 @@ use Rattle.std.proofs.Common.{sym, ◌∙◌, arith}
 use Rattle.std.proofs.Math.Path.{ap}
 use Rattle.std.proofs.Math.Option.{Option, none, some}
 use borrow.Author.Tests.{leb-true, le-leb, eq-eqb, eqb-true}
-use Rattle.laws.specs.Choice.{also, ruin, false-true, not_so, split-bool, also_left, also_right, also_both, ask_yes, ask_holds, and_then_left, and_then_right, and_then_both}
-use Rattle.laws.specs.Sets.{none-some}
+use Rattle.laws.specs.Choice.{also, ruin, false_true, not_so, split_bool, also_left, also_right, also_both, ask_yes, ask_holds, and_then_left, and_then_right, and_then_both}
+use Rattle.laws.specs.Sets.{none_some}
 use Rattle.layout.specs.declared.Geometry.{Geometry}
 use Rattle.interval.specs.declared.JournalInterval.{JournalInterval}
 use Rattle.interval.specs.declared.MaybeInterval.{MaybeInterval}
 use Rattle.interval.specs.Answer.{maybe_interval}
 use Rattle.interval.specs.Interval.{interval}
-use Rattle.interval.specs.Laws.{len_of, parts_none, parts_straight, parts_wrapped, parts-cases, parts_fit}
+use Rattle.interval.proofs.Laws.{len_of, parts_none, parts_straight, parts_wrapped, parts_cases, parts_fit}
 use Rattle.superblock.specs.declared.Superblock.{Superblock}
 use Rattle.superblock.specs.declared.JournalRead.{JournalRead}
 use Rattle.superblock.specs.Superblock.{journal_front_interval_of_superblock, journal_back_interval_of_superblock}
@@ -25,26 +25,26 @@ use Rattle.loading.specs.Other.{front_of, back_of, front_blocks, back_blocks, pi
 use Rattle.loading.specs.Laws.Which.{which_asked, asked_which, not_true, true_not}
 
 -- question 2's test of the pieces, from its parts
-pub pieces_ok : (g : Geometry) (o : LoadingOther) (first second : MaybeInterval) (a b c : Bool) → first ≡ front_of g o.superblock → second ≡ back_of g o.superblock
+pub pieces_ok_is : (g : Geometry) (o : LoadingOther) (first second : MaybeInterval) (a b c : Bool) → first ≡ front_of g o.superblock → second ≡ back_of g o.superblock
     → a ≡ piece_interval o.front first → b ≡ piece_interval o.back second → c ≡ piece_reads_differ o.front o.back → also (also a b) c ≡ pieces_ok g o
 unfolding pieces_ok
-pieces_ok g o first second a b c hf hb ha hd hc =
+pieces_ok_is g o first second a b c hf hb ha hd hc =
     λ i. also (also ((ha ∙ ap (piece_interval o.front) hf) i) ((hd ∙ ap (piece_interval o.back) hb) i)) (hc i)
 
 -- A piece
 
 pub reads_is : (p : Piece) (id : ℕ) → piece_reads p id ≡ true → p ≡ piece.Reading id
-reads_is piece.Unread id e = false-true e
+reads_is piece.Unread id e = false_true e
 reads_is (piece.Reading k) id e = ap piece.Reading (eqb-true k id e)
-reads_is piece.In id e = false-true e
+reads_is piece.In id e = false_true e
 
 pub is_reads : (p : Piece) (id : ℕ) → p ≡ piece.Reading id → piece_reads p id ≡ true
 is_reads p id e = ap (λ (x : Piece). piece_reads x id) e ∙ eq-eqb id id refl
 
 pub unread_is : (p : Piece) → piece_unread p ≡ true → p ≡ piece.Unread
 unread_is piece.Unread e = refl
-unread_is (piece.Reading id) e = false-true e
-unread_is piece.In e = false-true e
+unread_is (piece.Reading id) e = false_true e
+unread_is piece.In e = false_true e
 
 pub differ_apart : (a b : Piece) → piece_reads_differ a b ≡ true → (id : ℕ) → a ≡ piece.Reading id → b ≡ piece.Reading id → ⊥
 differ_apart a b h id p q = not_true (piece_reads b id) (sym (ap (λ (x : Piece). piece_reads_differ x b) p) ∙ h) (is_reads b id q)
@@ -60,11 +60,11 @@ abbrev pub There : Option JournalInterval → Type 0
 There o = (v : JournalInterval) × (o ≡ some v)
 
 pub there_is : (o : Option JournalInterval) → is_there (maybe_interval o) ≡ true → There o
-there_is none e = false-true e
+there_is none e = false_true e
 there_is (some v) e = (v, refl)
 
-pub is_there : (o : Option JournalInterval) → There o → is_there (maybe_interval o) ≡ true
-is_there o h = ap (λ (x : Option JournalInterval). is_there (maybe_interval x)) h.1
+pub is_there_is : (o : Option JournalInterval) → There o → is_there (maybe_interval o) ≡ true
+is_there_is o h = ap (λ (x : Option JournalInterval). is_there (maybe_interval x)) h.1
 
 pub interval_facts : (p : Piece) (o : Option JournalInterval) → piece_interval p (maybe_interval o) ≡ true → (p ≡ piece.Unread → ⊥) → There o
 interval_facts piece.Unread o e f = absurd (f refl)
@@ -73,8 +73,8 @@ interval_facts piece.In o e f = there_is o e
 
 pub facts_interval : (p : Piece) (o : Option JournalInterval) → ((p ≡ piece.Unread → ⊥) → There o) → piece_interval p (maybe_interval o) ≡ true
 facts_interval piece.Unread o f = refl
-facts_interval (piece.Reading id) o f = is_there o (f (λ e. ruin (cc)))
-facts_interval piece.In o f = is_there o (f (λ e. ruin (cc)))
+facts_interval (piece.Reading id) o f = is_there_is o (f (λ e. ruin (cc)))
+facts_interval piece.In o f = is_there_is o (f (λ e. ruin (cc)))
 
 -- its blocks
 len_is : (o : Option JournalInterval) → blocks_of (maybe_interval o) ≡ len_of o
@@ -84,7 +84,7 @@ len_is (some v) = refl
 -- it is in where it is there
 
 no_none : (o : Option JournalInterval) → not (is_there (maybe_interval o)) ≡ true → {G : Type 0} → There o → G
-no_none o e h = absurd (not_true (is_there (maybe_interval o)) e (is_there o h))
+no_none o e h = absurd (not_true (is_there (maybe_interval o)) e (is_there_is o h))
 
 pub loaded_in : (p : Piece) (o : Option JournalInterval) → piece_loaded p (maybe_interval o) ≡ true → There o → p ≡ piece.In
 loaded_in piece.Unread o e h = no_none o e h
@@ -100,7 +100,7 @@ in_loaded piece.In o f = refl
 
 pub record LoadingOtherOk (g : Geometry) (s : LoadingOther) : Type 0 where
   pub superblock_wf : WFSuperblock g s.superblock
-  pub which_in : s.which_superblock ≤ 1
+  pub which_in : s.whichSuperblock ≤ 1
   pub front_there : (s.front ≡ piece.Unread → ⊥) → There (journal_front_interval_of_superblock g s.superblock)
   pub back_there : (s.back ≡ piece.Unread → ⊥) → There (journal_back_interval_of_superblock g s.superblock)
   pub reads_differ : (id : ℕ) → s.front ≡ piece.Reading id → s.back ≡ piece.Reading id → ⊥
@@ -114,7 +114,7 @@ module _ (g : Geometry) (s : LoadingOther) where
       let m = also_left _ _ r in
       record {
         superblock_wf = superblock_facts g s.superblock (also_left _ _ l);
-        which_in = leb-true s.which_superblock 1 (also_right _ _ l);
+        which_in = leb-true s.whichSuperblock 1 (also_right _ _ l);
         front_there = interval_facts s.front (journal_front_interval_of_superblock g s.superblock) (also_left _ _ m);
         back_there = interval_facts s.back (journal_back_interval_of_superblock g s.superblock) (also_right _ _ m);
         reads_differ = differ_apart s.front s.back (also_right _ _ r);
@@ -123,7 +123,7 @@ module _ (g : Geometry) (s : LoadingOther) where
   pub facts_loading_other : LoadingOtherOk g s → loading_other_ok g s ≡ true
   unfolding loading_other_ok pieces_ok
   facts_loading_other f =
-      also_both _ _ (also_both _ _ (facts_superblock g s.superblock f.superblock_wf) (le-leb s.which_superblock 1 f.which_in))
+      also_both _ _ (also_both _ _ (facts_superblock g s.superblock f.superblock_wf) (le-leb s.whichSuperblock 1 f.which_in))
       (also_both _ _
       (also_both _ _
       (facts_interval s.front (journal_front_interval_of_superblock g s.superblock) f.front_there)
@@ -149,8 +149,8 @@ module _ (g : Geometry) (superblock : Superblock) where
 
     pub front_some : There (journal_front_interval_of_superblock g superblock) → 0 < front_blocks g superblock
     front_some t =
-        parts-cases g superblock.journalStart superblock.journalLen
-        (λ h. none-some (parts_none g superblock.journalStart superblock.journalLen h).front_is t.1)
+        parts_cases g superblock.journalStart superblock.journalLen
+        (λ h. none_some (parts_none g superblock.journalStart superblock.journalLen h).front_is t.1)
         (λ h k.
         let e = front_blocks_is ∙ ap len_of (parts_straight g superblock.journalStart superblock.journalLen h k).front_is in
         omega arith)
@@ -160,9 +160,9 @@ module _ (g : Geometry) (superblock : Superblock) where
 
     pub back_some : There (journal_back_interval_of_superblock g superblock) → 0 < back_blocks g superblock
     back_some t =
-        parts-cases g superblock.journalStart superblock.journalLen
-        (λ h. none-some (parts_none g superblock.journalStart superblock.journalLen h).back_is t.1)
-        (λ h k. none-some (parts_straight g superblock.journalStart superblock.journalLen h k).back_is t.1)
+        parts_cases g superblock.journalStart superblock.journalLen
+        (λ h. none_some (parts_none g superblock.journalStart superblock.journalLen h).back_is t.1)
+        (λ h k. none_some (parts_straight g superblock.journalStart superblock.journalLen h k).back_is t.1)
         (λ k.
         let e = back_blocks_is ∙ ap len_of (parts_wrapped g superblock.journalStart superblock.journalLen k).back_is in
         omega arith)
@@ -190,7 +190,7 @@ module _ (g : Geometry) (s : LoadingOther) (which : ℕ) where
   asked_page_in_journal_req a =
       and_then_both _ _ (asked_which which a.which_in)
       (ask_holds 6 (also (is_there (maybe_interval (interval_at g s which))) (piece_unread (piece_at s which)))
-      (also_both (is_there (maybe_interval (interval_at g s which))) (piece_unread (piece_at s which)) (is_there (interval_at g s which) a.there) (ap piece_unread a.unread)))
+      (also_both (is_there (maybe_interval (interval_at g s which))) (piece_unread (piece_at s which)) (is_there_is (interval_at g s which) a.there) (ap piece_unread a.unread)))
 
   -- the interval that is asked for
   pub req_interval : (v : JournalInterval) → interval_at g s which ≡ some v → page_in_journal_req_interval g s which ≡ v
@@ -206,13 +206,13 @@ pub data Awaiting (s : LoadingOther) (id : ℕ) : Type 0 where
 
 module _ (s : LoadingOther) (id : ℕ) where
   unreading : (p : Piece) → piece_reads p id ≡ false → p ≡ piece.Reading id → ⊥
-  unreading p e h = false-true (sym e ∙ is_reads p id h)
+  unreading p e h = false_true (sym e ∙ is_reads p id h)
 
   pub awaiting : Awaiting s id
   awaiting =
-      split-bool (piece_reads s.front id)
+      split_bool (piece_reads s.front id)
       (λ e. front (reads_is s.front id e))
-      (λ n. split-bool (piece_reads s.back id) (λ e. back (unreading s.front n) (reads_is s.back id e)) (λ e. nobody (unreading s.front n) (unreading s.back e)))
+      (λ n. split_bool (piece_reads s.back id) (λ e. back (unreading s.front n) (reads_is s.back id e)) (λ e. nobody (unreading s.front n) (unreading s.back e)))
 
   not_reading : (p : Piece) → (p ≡ piece.Reading id → ⊥) → piece_reads p id ≡ false
   not_reading p h = not_so (piece_reads p id) (λ e. h (reads_is p id e))
@@ -256,7 +256,7 @@ place_in g s id w = go (awaiting s id)
 -- FinishLoadingOtherPhase
 
 pub record FinishLoadingOtherPhaseAsked (g : Geometry) (s : LoadingOther) : Type 0 where
-  pub front_in : There (journal_front_interval_of_superblock g s.superblock) → s.front ≡ piece.In
+  pub front_in_is : There (journal_front_interval_of_superblock g s.superblock) → s.front ≡ piece.In
   pub back_in_is : There (journal_back_interval_of_superblock g s.superblock) → s.back ≡ piece.In
 
 module _ (g : Geometry) (s : LoadingOther) where
@@ -265,7 +265,7 @@ module _ (g : Geometry) (s : LoadingOther) where
   finish_loading_other_phase_asked e =
       let t = ask_yes 6 (also (piece_loaded s.front (front_of g s.superblock)) (piece_loaded s.back (back_of g s.superblock))) (omega arith) e in
       record {
-        front_in = loaded_in s.front (journal_front_interval_of_superblock g s.superblock) (also_left (piece_loaded s.front (front_of g s.superblock)) (piece_loaded s.back (back_of g s.superblock)) t);
+        front_in_is = loaded_in s.front (journal_front_interval_of_superblock g s.superblock) (also_left (piece_loaded s.front (front_of g s.superblock)) (piece_loaded s.back (back_of g s.superblock)) t);
         back_in_is = loaded_in s.back (journal_back_interval_of_superblock g s.superblock) (also_right (piece_loaded s.front (front_of g s.superblock)) (piece_loaded s.back (back_of g s.superblock)) t);
       }
 
@@ -274,5 +274,5 @@ module _ (g : Geometry) (s : LoadingOther) where
   asked_finish_loading_other_phase a =
       ask_holds 6 _
       (also_both _ _
-      (in_loaded s.front (journal_front_interval_of_superblock g s.superblock) a.front_in)
+      (in_loaded s.front (journal_front_interval_of_superblock g s.superblock) a.front_in_is)
       (in_loaded s.back (journal_back_interval_of_superblock g s.superblock) a.back_in_is))

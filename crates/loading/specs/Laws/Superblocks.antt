@@ -4,7 +4,7 @@ use Rattle.std.specs.Prelude.{ℕ, ◌≤◌, Bool, true, false, not, ◌≡◌,
 use Rattle.std.proofs.Math.Bool.{cond}
 use Rattle.std.proofs.Common.{sym, ◌∙◌, arith, eq-eqb, eqb-true}
 use Rattle.std.proofs.Math.Path.{ap}
-use Rattle.laws.specs.Choice.{false-true, also_left, also_right, also_both, ask_yes, ask_holds, and_then_left, and_then_right, and_then_both}
+use Rattle.laws.specs.Choice.{false_true, also_left, also_right, also_both, ask_yes, ask_holds, and_then_left, and_then_right, and_then_both}
 use Rattle.layout.specs.declared.Geometry.{Geometry}
 use Rattle.superblock.specs.declared.Superblock.{Superblock}
 use Rattle.superblock.specs.declared.SuperblockRead.{SuperblockRead}
@@ -15,37 +15,37 @@ use Rattle.loading.specs.declared.LoadingSuperblock.{LoadingSuperblock}
 use Rattle.loading.specs.declared.LoadingOther.{LoadingOther}
 use Rattle.loading.specs.Slots.{success_wf, slot_awaits, slot_unasked, slot_corrupt, slot_succeeded, slot_holds, slot_reads_differ, slot_read}
 use Rattle.loading.specs.Other.{selected_other}
-use Rattle.loading.specs.Superblocks.{loading_superblock_ok, slot_at, other_slot, to_slot, ask_page_in_superblock_req, superblock_awaited, page_in_superblock_resp_next, ifHolds, ask_finish_loading_superblock_phase, finish_loading_superblock_phase_next, ask_ask_again}
+use Rattle.loading.specs.Superblocks.{loading_superblock_ok, slot_at, other_slot, to_slot, ask_page_in_superblock_req, superblock_awaited, page_in_superblock_resp_next, if_holds, ask_finish_loading_superblock_phase, finish_loading_superblock_phase_next, ask_ask_again}
 use Rattle.loading.specs.Laws.Which.{which_asked, asked_which, not_true, true_not}
 
 -- A slot
 
 pub awaits_is : (r : SlotRead) (id : ℕ) → slot_awaits r id ≡ true → r ≡ slot.Awaited id
-awaits_is slot.Unasked id e = false-true e
+awaits_is slot.Unasked id e = false_true e
 awaits_is (slot.Awaited k) id e = ap slot.Awaited (eqb-true k id e)
-awaits_is (slot.Success superblock) id e = false-true e
-awaits_is slot.Corruption id e = false-true e
+awaits_is (slot.Success superblock) id e = false_true e
+awaits_is slot.Corruption id e = false_true e
 
 pub is_awaits : (r : SlotRead) (id : ℕ) → r ≡ slot.Awaited id → slot_awaits r id ≡ true
 is_awaits r id e = ap (λ (x : SlotRead). slot_awaits x id) e ∙ eq-eqb id id refl
 
 pub unasked_is : (r : SlotRead) → slot_unasked r ≡ true → r ≡ slot.Unasked
 unasked_is slot.Unasked e = refl
-unasked_is (slot.Awaited id) e = false-true e
-unasked_is (slot.Success superblock) e = false-true e
-unasked_is slot.Corruption e = false-true e
+unasked_is (slot.Awaited id) e = false_true e
+unasked_is (slot.Success superblock) e = false_true e
+unasked_is slot.Corruption e = false_true e
 
 pub corrupt_is : (r : SlotRead) → slot_corrupt r ≡ true → r ≡ slot.Corruption
-corrupt_is slot.Unasked e = false-true e
-corrupt_is (slot.Awaited id) e = false-true e
-corrupt_is (slot.Success superblock) e = false-true e
+corrupt_is slot.Unasked e = false_true e
+corrupt_is (slot.Awaited id) e = false_true e
+corrupt_is (slot.Success superblock) e = false_true e
 corrupt_is slot.Corruption e = refl
 
 pub succeeded_is : (r : SlotRead) → slot_succeeded r ≡ true → (superblock : Superblock) × (r ≡ slot.Success superblock)
-succeeded_is slot.Unasked e = false-true e
-succeeded_is (slot.Awaited id) e = false-true e
+succeeded_is slot.Unasked e = false_true e
+succeeded_is (slot.Awaited id) e = false_true e
 succeeded_is (slot.Success superblock) e = (superblock, refl)
-succeeded_is slot.Corruption e = false-true e
+succeeded_is slot.Corruption e = false_true e
 
 module _ (g : Geometry) where
   pub success_facts : (r : SlotRead) → success_wf g r ≡ true → (superblock : Superblock) → r ≡ slot.Success superblock → WFSuperblock g superblock
@@ -95,7 +95,7 @@ module _ (g : Geometry) (s : LoadingSuperblock) where
 
 pub record PageInSuperblockReqAsked (s : LoadingSuperblock) (which id : ℕ) : Type 0 where
   pub which_in : which ≤ 1
-  pub other_slot : other_slot s which ≡ slot.Awaited id → ⊥
+  pub other_slot_is : other_slot s which ≡ slot.Awaited id → ⊥
   pub unasked : slot_at s which ≡ slot.Unasked
 
 module _ (s : LoadingSuperblock) (which id : ℕ) where
@@ -105,7 +105,7 @@ module _ (s : LoadingSuperblock) (which id : ℕ) where
       let r = and_then_right _ _ e in
       record {
         which_in = which_asked which (and_then_left _ _ e);
-        other_slot = λ w. not_true (slot_awaits (other_slot s which) id) (ask_yes 5 (not (slot_awaits (other_slot s which) id)) (omega arith) (and_then_left _ _ r)) (is_awaits (other_slot s which) id w);
+        other_slot_is = λ w. not_true (slot_awaits (other_slot s which) id) (ask_yes 5 (not (slot_awaits (other_slot s which) id)) (omega arith) (and_then_left _ _ r)) (is_awaits (other_slot s which) id w);
         unasked = unasked_is (slot_at s which) (ask_yes 6 (slot_unasked (slot_at s which)) (omega arith) (and_then_right _ _ r));
       }
 
@@ -114,7 +114,7 @@ module _ (s : LoadingSuperblock) (which id : ℕ) where
   asked_page_in_superblock_req a =
       and_then_both _ _ (asked_which which a.which_in)
       (and_then_both _ _
-      (ask_holds 5 (not (slot_awaits (other_slot s which) id)) (true_not (slot_awaits (other_slot s which) id) (λ e. a.other_slot (awaits_is (other_slot s which) id e))))
+      (ask_holds 5 (not (slot_awaits (other_slot s which) id)) (true_not (slot_awaits (other_slot s which) id) (λ e. a.other_slot_is (awaits_is (other_slot s which) id e))))
       (ask_holds 6 (slot_unasked (slot_at s which)) (ap slot_unasked a.unasked)))
 
   -- PageInSuperblockResp
@@ -159,7 +159,7 @@ module _ (s : LoadingSuperblock) where
   pub finished_selects : (other : LoadingOther) (a : FinishLoadingSuperblockPhaseAsked s) → finish_loading_superblock_phase_next s other ≡ selected_other a.superblock1 a.superblock2
   unfolding finish_loading_superblock_phase_next
   finished_selects other a =
-      λ i. ifHolds (slot_holds (a.success1 i)) (λ superblock1. ifHolds (slot_holds (a.success2 i)) (λ superblock2. selected_other superblock1 superblock2) other) other
+      λ i. if_holds (slot_holds (a.success1 i)) (λ superblock1. if_holds (slot_holds (a.success2 i)) (λ superblock2. selected_other superblock1 superblock2) other) other
 
 -- Ask again
 

@@ -3,7 +3,7 @@ use Rattle.std.specs.Prelude.{ℕ, Bool, true, false, cond, ◌≡◌, refl, Lis
 use Rattle.std.proofs.Math.Path.{sym, ap}
 use Rattle.std.proofs.Common.{◌∙◌}
 use Rattle.std.proofs.Math.Logic.{⊎_elim}
-use Rattle.laws.specs.Choice.{and_then, and_then_first, and_then_done, unless, unless-kept, unless-done, refused-said, asked_yes, asked_no, asked_either, ruin}
+use Rattle.laws.specs.Choice.{and_then, and_then_first, and_then_done, unless, unless_kept, unless_done, refused_said, asked_yes, asked_no, asked_either, ruin}
 use Rattle.superblock.specs.declared.DiskOp.{DiskOp}
 use Rattle.machine.specs.declared.Machine.{Machine}
 use Rattle.machine.specs.declared.MachineAnswer.TheVariants as answer
@@ -14,17 +14,17 @@ use Rattle.machine.specs.Machine.{refused, accepted, answered}
 module _ (k q : ℕ) (e : k ≡ q) where
   pub answered_no : (op : DiskOp) (next m : Machine) → (k ≡ 0 → ⊥) → refused m k ≡ answered q op next m
   unfolding answered
-  answered_no op next m h = refused-said k q (accepted op next) (refused m) e h
+  answered_no op next m h = refused_said k q (accepted op next) (refused m) e h
 
   pub answered_yes : (op : DiskOp) (x next m : Machine) → k ≡ 0 → x ≡ next → accepted op x ≡ answered q op next m
   unfolding answered
   answered_yes op x next m h p = ap (accepted op) p ∙ sym (asked_yes q (accepted op next) (refused m q) (sym e ∙ h))
 
   pub kept : (old new : List ℕ) → (k ≡ 0 → ⊥) → old ≡ unless q old new
-  kept old new h = sym (unless-kept q old new (λ z. h (e ∙ z)))
+  kept old new h = sym (unless_kept q old new (λ z. h (e ∙ z)))
 
   pub changed : (x old new : List ℕ) → k ≡ 0 → x ≡ new → x ≡ unless q old new
-  changed x old new h p = p ∙ sym (unless-done q old new (sym e ∙ h))
+  changed x old new h p = p ∙ sym (unless_done q old new (sym e ∙ h))
 
 -- two questions in a row: a no to the first, and a yes
 module _ (k q r : ℕ) (e : k ≡ q) where
@@ -83,7 +83,7 @@ module _ (q : ℕ) (op : DiskOp) (next m : Machine) (r : MachineStepped) (e : r 
   answer_yes o h = (next_asked q op next m o (sym (ap (λ (x : MachineStepped). x.answer) e) ∙ h)).0
 
   pub answer_kept : (n : ℕ) (old new : List ℕ) → r.answer ≡ answer.Refused n → old ≡ unless q old new
-  answer_kept n old new h = sym (unless-kept q old new (answer_no n h))
+  answer_kept n old new h = sym (unless_kept q old new (answer_no n h))
 
   pub answer_changed : (o : DiskOp) (x old new : List ℕ) → r.answer ≡ answer.Next o → x ≡ new → x ≡ unless q old new
-  answer_changed o x old new h p = p ∙ sym (unless-done q old new (answer_yes o h))
+  answer_changed o x old new h p = p ∙ sym (unless_done q old new (answer_yes o h))

@@ -5,7 +5,7 @@ use Rattle.std.proofs.Common.{◌∙◌, arith, take_all}
 use Rattle.std.proofs.Math.ListN.{length, length-drop}
 use Rattle.std.proofs.Math.Seq.{length-take-le}
 use borrow.Author.Tests.{leb-true}
-use Rattle.laws.specs.Choice.{and_then, and_then_left, and_then_right, and_then_first, and_then_done, also_left, also_right, ask, ask_fails, ask_holds, split-le}
+use Rattle.laws.specs.Choice.{and_then, and_then_left, and_then_right, and_then_first, and_then_done, also_left, also_right, ask, ask_fails, ask_holds, split_le}
 use Rattle.laws.specs.Fold.{same_is}
 use Rattle.superblock.specs.declared.DiskOp.TheVariants as op
 use Rattle.memory.specs.declared.Count.{Count}
@@ -55,7 +55,7 @@ advance_given m b brought sizes k h =
 
 -- as many elements as were taken are there
 taken_there : (n : ℕ) (xs : List ℕ) → length (take n xs) ≡ n → n ≤ length xs
-taken_there n xs e = split-le n (length xs) (λ h. h) (λ h. let k = ap length (take_all n xs (omega arith)) in absurd (omega arith))
+taken_there n xs e = split_le n (length xs) (λ h. h) (λ h. let k = ap length (take_all n xs (omega arith)) in absurd (omega arith))
 
 -- Replay, from the entries that the caller brings
 module _ (e : Entries) (rbytes rlens brought sizes : List ℕ) (k : ℕ) (given : Counted) (h : given ≡ counted (ask_given (memory brought sizes k)) (count_of (memory brought sizes k))) where
@@ -95,8 +95,8 @@ module _ (e : Entries) (rbytes rlens brought sizes : List ℕ) (k : ℕ) (given 
       pub replay_other : b ≡ false → answer.Refused 6 ≡ replay_given e rbytes rlens brought sizes k
       replay_other z = next_is 6 (sym (ask_fails 6 b z)) (answer.Refused 6) (counted_no 6 6 (taken_then e (count_of (memory brought sizes k))) (omega arith) refl)
 
-      pub replay_next : b ≡ true → answer.Now (taken_then e new) ≡ replay_given e rbytes rlens brought sizes k
-      replay_next z =
+      pub replay_next_is : b ≡ true → answer.Now (taken_then e new) ≡ replay_given e rbytes rlens brought sizes k
+      replay_next_is z =
           next_is 0 (sym (ask_holds 6 b z)) (answer.Now (taken_then e new))
           (ap (λ (c : Count). answer.Now (taken_then e c)) given_is.1 ∙ counted_done 0 (taken_then e (count_of (memory brought sizes k))) refl)
 

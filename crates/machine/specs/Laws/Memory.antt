@@ -2,7 +2,7 @@
 use Rattle.std.specs.Prelude.{ℕ, ◌-◌, ◌*◌, min, Bool, true, false, cond, ◌≡◌, List, eqb, length, take, drop}
 use Rattle.std.proofs.Common.{arith, ◌∙◌, eqb-true}
 use Rattle.std.proofs.Math.Path.{refl, sym, ap}
-use Rattle.laws.specs.Choice.{and_then, unless, asked_yes, refused-said}
+use Rattle.laws.specs.Choice.{and_then, unless, asked_yes, refused_said}
 use Rattle.laws.specs.Part.{part_cut}
 use Rattle.laws.specs.Splice.{splice, clipped}
 use Rattle.laws.specs.Fold.{sum}
@@ -160,7 +160,7 @@ module _ (g : Geometry) (m : Machine) (pieces rbytes rlens : List ℕ) (k : ℕ)
       × (rlens ≡ unless (ask_loaded g m pieces rbytes rlens) rlens (loaded_replay_lens m pieces rlens)))
   unfolding ask_loaded
   load_first h = (
-    refused-said k (and_then (ask_finish_loading_other_phase_step g m) unpacks)
+    refused_said k (and_then (ask_finish_loading_other_phase_step g m) unpacks)
         (scan.Total (length (all_entries (loaded_bytes m pieces))) (sum (lengths (all_entries (loaded_bytes m pieces))))) scan.Refused
         (first_is k (ask_finish_loading_other_phase_step g m) unpacks hk h) h,
     (

@@ -1,7 +1,7 @@
 -- A step that decides by a value: the value tells the number, and with it the answer. The code's proofs cite them.
 use Rattle.std.specs.Prelude.{ℕ, ◌+◌, Bool, true, false, cond, ◌≡◌, refl, eqb}
 use Rattle.std.proofs.Common.{sym, ◌∙◌, ap, eqb-true}
-use Rattle.laws.specs.Choice.{and_then, and_then_first, and_then_done, refused-said, asked_yes, asked_no, split-eq}
+use Rattle.laws.specs.Choice.{and_then, and_then_first, and_then_done, refused_said, asked_yes, asked_no, split_eq}
 use Rattle.layout.specs.declared.Geometry.{Geometry}
 use Rattle.superblock.specs.declared.Superblock.{Superblock}
 use Rattle.superblock.specs.declared.MaybeId.{MaybeId}
@@ -32,11 +32,11 @@ pub answered_not : (q n : ℕ) (op : DiskOp) (next m : Machine) → (q ≡ 0 →
 answered_not q n op next m f = answered_no n q f.1 op next m (λ z. f.0 (sym f.1 ∙ z))
 
 -- question 3, then the questions of what is sent: an answer that one number decides
-pub asked-after {ℓ} : {A : Type ℓ} (k q : ℕ) (value : A) (f : ℕ → A) → cond (eqb k 0) (cond (eqb q 0) value (f q)) (f k) ≡ cond (eqb (and_then k q) 0) value (f (and_then k q))
-asked-after {A = A} k q value f =
-    split-eq k 0
+pub asked_after {ℓ} : {A : Type ℓ} (k q : ℕ) (value : A) (f : ℕ → A) → cond (eqb k 0) (cond (eqb q 0) value (f q)) (f k) ≡ cond (eqb (and_then k q) 0) value (f (and_then k q))
+asked_after {A = A} k q value f =
+    split_eq k 0
     (λ h. asked_yes k (cond (eqb q 0) value (f q)) (f k) h ∙ ap (λ (n : ℕ). cond {A = A} (eqb n 0) value (f n)) (sym (and_then_done k q h)))
-    (λ h. asked_no k (cond (eqb q 0) value (f q)) (f k) h ∙ refused-said k (and_then k q) value f (sym (and_then_first k q h)) h)
+    (λ h. asked_no k (cond (eqb q 0) value (f q)) (f k) h ∙ refused_said k (and_then k q) value f (sym (and_then_first k q h)) h)
 
 -- what is sent tells the number, and where nothing was refused its value
 pub new_number : (q : ℕ) (s : Superblock) → new_refusal (new_superblock q s) ≡ q
@@ -66,12 +66,12 @@ write_value q s b n h = ap range_in (asked_yes q (write.Range s b n) (write.Refu
 -- a journal write
 module _ (g : Geometry) (m : Machine) (id1 : ℕ) (id2 : MaybeId) (b : Bodies) (w : JournalWrite) (e : w ≡ journal_new g m id1 id2 b) (k : ℕ) (hk : k ≡ write_refusal w) where
   abbrev wrote : ℕ
-  wrote = m.ready.written_journal_len + sent_blocks m.ready b
+  wrote = m.ready.writtenJournalLen + sent_blocks m.ready b
 
   range_is : w ≡ journal_write (ask_write_back_journal_req_step g m id1 id2 b) (sent_start g m) (sent_blocks m.ready b) wrote
   unfolding journal_new write_back_journal_req ask_write_back_journal_req_step
   range_is =
-      e ∙ asked-after (ask_ready m) (ask_write_back_journal_req g m.ready id1 id2 b) (write.Range (sent_start g m) (sent_blocks m.ready b) wrote) write.Refused
+      e ∙ asked_after (ask_ready m) (ask_write_back_journal_req g m.ready id1 id2 b) (write.Range (sent_start g m) (sent_blocks m.ready b) wrote) write.Refused
 
   pub range_number : k ≡ ask_write_back_journal_req_step g m id1 id2 b
   range_number = hk ∙ ap write_refusal range_is ∙ write_number (ask_write_back_journal_req_step g m id1 id2 b) (sent_start g m) (sent_blocks m.ready b) wrote
@@ -112,7 +112,7 @@ module _ (m : Machine) (id q : ℕ) (s : Superblock) (f : Superblock → Ready) 
 
 pub log_is : (g : Geometry) (m : Machine) (w : NewSuperblock) → w ≡ log_new g m → w ≡ new_superblock (ask_advance_log_step g m) (advanced_log m.ready)
 unfolding log_new advance_log ask_advance_log_step
-log_is g m w e = e ∙ asked-after (ask_ready m) (ask_advance_log g m.ready) (new.Is (advanced_log m.ready)) new.Refused
+log_is g m w e = e ∙ asked_after (ask_ready m) (ask_advance_log g m.ready) (new.Is (advanced_log m.ready)) new.Refused
 
 -- a location commit's, by the location last received
 located : (g : Geometry) (m : Machine) (w : NewSuperblock) → w ≡ advance_location g m.ready → w ≡ new_superblock (ask_advance_location g m.ready) (advanced_location g m.ready (new_location m))
@@ -138,4 +138,4 @@ unfolding location_new ask_advance_location_step
 location_is g m w e =
     e
     ∙ ap (λ (v : NewSuperblock). new_after (ask_ready m) v) (located g m (advance_location g m.ready) refl)
-    ∙ asked-after (ask_ready m) (ask_advance_location g m.ready) (new.Is (advanced_location g m.ready (new_location m))) new.Refused
+    ∙ asked_after (ask_ready m) (ask_advance_location g m.ready) (new.Is (advanced_location g m.ready (new_location m))) new.Refused

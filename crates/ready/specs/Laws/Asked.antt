@@ -3,7 +3,7 @@ use Rattle.std.specs.Prelude.{ℕ, ◌+◌, ◌≤◌, ◌<◌, Bool, true, fals
 use Rattle.std.proofs.Math.Bool.{not}
 use Rattle.std.proofs.Common.{ap, arith}
 use borrow.Author.Tests.{leb-true, le-leb, ltb-true, lt-ltb, eqb-true, eq-eqb}
-use Rattle.laws.specs.Choice.{also_left, also_right, also_both, and_then_left, and_then_right, and_then_both, ask_yes, ask_holds, false-true}
+use Rattle.laws.specs.Choice.{also_left, also_right, also_both, and_then_left, and_then_right, and_then_both, ask_yes, ask_holds, false_true}
 use Rattle.layout.specs.declared.Geometry.{Geometry}
 use Rattle.layout.specs.declared.Location.{Location}
 use Rattle.layout.specs.Laws.{ValidIndirectionTableLocation, table_location_facts, facts_table_location}
@@ -19,16 +19,16 @@ use Rattle.ready.specs.FreezeSteps.{ask_freeze, ask_receive_frozen_loc}
 use Rattle.ready.specs.EntrySteps.{ask_advance}
 
 not_false : (b : Bool) → not b ≡ true → b ≡ false
-not_false true e = false-true e
+not_false true e = false_true e
 not_false false e = refl
 
 -- WriteBackJournalReq
 pub record MayWrite (g : Geometry) (r : Ready) (id1 : ℕ) (id2 : MaybeId) (b : Bodies) : Type 0 where
-  pub no_commit : no_commit r.commit ≡ true
+  pub no_commit_is : no_commit r.commit ≡ true
   pub some_pending : 0 < (sent r.entries b).entries
   pub start_in : r.superblock.journalStart < g.blocks
-  pub written_in : r.written_journal_len ≤ g.blocks
-  pub fits : sent_blocks r b + r.written_journal_len ≤ g.blocks
+  pub written_in : r.writtenJournalLen ≤ g.blocks
+  pub fits : sent_blocks r b + r.writtenJournalLen ≤ g.blocks
   pub ids_fit : ask_ids r.writes id1 id2 ≡ 0
 
 module _ (g : Geometry) (r : Ready) (id1 : ℕ) (id2 : MaybeId) (b : Bodies) where
@@ -40,11 +40,11 @@ module _ (g : Geometry) (r : Ready) (id1 : ℕ) (id2 : MaybeId) (b : Bodies) whe
       let e1 = also_left _ _ e in
       let e2 = also_left _ _ e1 in
       record {
-        no_commit = also_left _ _ e2;
+        no_commit_is = also_left _ _ e2;
         some_pending = ltb-true 0 (sent r.entries b).entries (also_right _ _ e2);
         start_in = ltb-true r.superblock.journalStart g.blocks (also_right _ _ e1);
-        written_in = leb-true r.written_journal_len g.blocks (also_right _ _ e);
-        fits = leb-true (sent_blocks r b + r.written_journal_len) g.blocks (ask_yes 8 _ (omega arith) (and_then_left _ _ q8));
+        written_in = leb-true r.writtenJournalLen g.blocks (also_right _ _ e);
+        fits = leb-true (sent_blocks r b + r.writtenJournalLen) g.blocks (ask_yes 8 _ (omega arith) (and_then_left _ _ q8));
         ids_fit = and_then_right _ _ q8;
       }
 
@@ -55,55 +55,55 @@ module _ (g : Geometry) (r : Ready) (id1 : ℕ) (id2 : MaybeId) (b : Bodies) whe
       (ask_holds 6 _
       (also_both _ _
       (also_both _ _
-      (also_both _ _ m.no_commit (lt-ltb 0 (sent r.entries b).entries m.some_pending))
+      (also_both _ _ m.no_commit_is (lt-ltb 0 (sent r.entries b).entries m.some_pending))
       (lt-ltb r.superblock.journalStart g.blocks m.start_in))
-      (le-leb r.written_journal_len g.blocks m.written_in)))
-      (and_then_both _ _ (ask_holds 8 _ (le-leb (sent_blocks r b + r.written_journal_len) g.blocks m.fits)) m.ids_fit)
+      (le-leb r.writtenJournalLen g.blocks m.written_in)))
+      (and_then_both _ _ (ask_holds 8 _ (le-leb (sent_blocks r b + r.writtenJournalLen) g.blocks m.fits)) m.ids_fit)
 
 -- both commits
 pub record MayCommit (r : Ready) : Type 0 where
-  pub no_commit : no_commit r.commit ≡ true
-  pub none_outstanding : r.writes.count ≡ 0
-  pub none_frozen : r.entries.frozen ≡ 0
+  pub no_commit_is : no_commit r.commit ≡ true
+  pub none_outstanding_is : r.writes.count ≡ 0
+  pub none_frozen_is : r.entries.frozen ≡ 0
 
 commit_facts : (r : Ready) → may_commit r ≡ true → MayCommit r
 unfolding may_commit
 commit_facts r e =
     let e1 = also_left _ _ e in
     record {
-      no_commit = also_left _ _ e1;
-      none_outstanding = eqb-true r.writes.count 0 (also_right _ _ e1);
-      none_frozen = eqb-true r.entries.frozen 0 (also_right _ _ e);
+      no_commit_is = also_left _ _ e1;
+      none_outstanding_is = eqb-true r.writes.count 0 (also_right _ _ e1);
+      none_frozen_is = eqb-true r.entries.frozen 0 (also_right _ _ e);
     }
 
 facts_commit : (r : Ready) → MayCommit r → may_commit r ≡ true
 unfolding may_commit
 facts_commit r m =
-    also_both _ _ (also_both _ _ m.no_commit (eq-eqb r.writes.count 0 m.none_outstanding)) (eq-eqb r.entries.frozen 0 m.none_frozen)
+    also_both _ _ (also_both _ _ m.no_commit_is (eq-eqb r.writes.count 0 m.none_outstanding_is)) (eq-eqb r.entries.frozen 0 m.none_frozen_is)
 
 -- WriteBackSuperblockReq_AdvanceLog
 pub record MayAdvanceLog (g : Geometry) (r : Ready) : Type 0 where
   pub commit : MayCommit r
-  pub written_in : r.written_journal_len ≤ g.blocks
+  pub written_in : r.writtenJournalLen ≤ g.blocks
 
 module _ (g : Geometry) (r : Ready) where
   pub log_asked : ask_advance_log g r ≡ 0 → MayAdvanceLog g r
   unfolding ask_advance_log
   log_asked q =
       let e = ask_yes 6 _ (omega arith) q in
-      record { commit = commit_facts r (also_left _ _ e); written_in = leb-true r.written_journal_len g.blocks (also_right _ _ e) }
+      record { commit = commit_facts r (also_left _ _ e); written_in = leb-true r.writtenJournalLen g.blocks (also_right _ _ e) }
 
   pub asks_log : MayAdvanceLog g r → ask_advance_log g r ≡ 0
   unfolding ask_advance_log
-  asks_log m = ask_holds 6 _ (also_both _ _ (facts_commit r m.commit) (le-leb r.written_journal_len g.blocks m.written_in))
+  asks_log m = ask_holds 6 _ (also_both _ _ (facts_commit r m.commit) (le-leb r.writtenJournalLen g.blocks m.written_in))
 
 -- WriteBackSuperblockReq_AdvanceLocation
 pub record MayAdvanceLocation (g : Geometry) (r : Ready) : Type 0 where
-  pub received : is_received r.frozen.frozen_loc ≡ true
+  pub received : is_received r.frozen.frozenLoc ≡ true
   pub commit : MayCommit r
   pub start_in : r.superblock.journalStart < g.blocks
-  pub position_in : r.frozen.frozen_journal_position ≤ r.written_journal_len
-  pub written_in : r.written_journal_len ≤ g.blocks
+  pub position_in : r.frozen.frozenJournalPosition ≤ r.writtenJournalLen
+  pub written_in : r.writtenJournalLen ≤ g.blocks
 
 module _ (g : Geometry) (r : Ready) where
   pub location_asked : ask_advance_location g r ≡ 0 → MayAdvanceLocation g r
@@ -117,8 +117,8 @@ module _ (g : Geometry) (r : Ready) where
         received = also_left _ _ e3;
         commit = commit_facts r (also_right _ _ e3);
         start_in = ltb-true r.superblock.journalStart g.blocks (also_right _ _ e2);
-        position_in = leb-true r.frozen.frozen_journal_position r.written_journal_len (also_right _ _ e1);
-        written_in = leb-true r.written_journal_len g.blocks (also_right _ _ e);
+        position_in = leb-true r.frozen.frozenJournalPosition r.writtenJournalLen (also_right _ _ e1);
+        written_in = leb-true r.writtenJournalLen g.blocks (also_right _ _ e);
       }
 
   pub asks_location : MayAdvanceLocation g r → ask_advance_location g r ≡ 0
@@ -129,13 +129,13 @@ module _ (g : Geometry) (r : Ready) where
       (also_both _ _
       (also_both _ _ (also_both _ _ m.received (facts_commit r m.commit))
       (lt-ltb r.superblock.journalStart g.blocks m.start_in))
-      (le-leb r.frozen.frozen_journal_position r.written_journal_len m.position_in))
-      (le-leb r.written_journal_len g.blocks m.written_in))
+      (le-leb r.frozen.frozenJournalPosition r.writtenJournalLen m.position_in))
+      (le-leb r.writtenJournalLen g.blocks m.written_in))
 
 -- Freeze
 pub record MayFreeze (r : Ready) : Type 0 where
-  pub no_commit : no_commit r.commit ≡ true
-  pub other_loc : is_location r.frozen.frozen_loc r.superblock.indirectionTableLoc ≡ false
+  pub no_commit_is : no_commit r.commit ≡ true
+  pub other_loc : is_location r.frozen.frozenLoc r.superblock.indirectionTableLoc ≡ false
   pub all_replayed : r.entries.replay ≤ r.entries.taken.entries
 
 module _ (r : Ready) where
@@ -145,7 +145,7 @@ module _ (r : Ready) where
       let e = ask_yes 6 _ (omega arith) q in
       let e1 = also_left _ _ e in
       record {
-        no_commit = also_left _ _ e1;
+        no_commit_is = also_left _ _ e1;
         other_loc = not_false _ (also_right _ _ e1);
         all_replayed = leb-true r.entries.replay r.entries.taken.entries (also_right _ _ e);
       }
@@ -154,14 +154,14 @@ module _ (r : Ready) where
   unfolding ask_freeze
   asks_freeze m =
       ask_holds 6 _
-      (also_both _ _ (also_both _ _ m.no_commit (ap not m.other_loc))
+      (also_both _ _ (also_both _ _ m.no_commit_is (ap not m.other_loc))
       (le-leb r.entries.replay r.entries.taken.entries m.all_replayed))
 
 -- ReceiveFrozenLoc
 pub record MayReceive (g : Geometry) (r : Ready) (loc : Location) : Type 0 where
   pub loc_valid : ValidIndirectionTableLocation g loc
-  pub frozen : r.frozen.is_frozen ≡ true
-  pub none_received : is_received r.frozen.frozen_loc ≡ false
+  pub frozen : r.frozen.isFrozen ≡ true
+  pub none_received : is_received r.frozen.frozenLoc ≡ false
 
 module _ (g : Geometry) (r : Ready) (loc : Location) where
   pub receive_asked : ask_receive_frozen_loc g r loc ≡ 0 → MayReceive g r loc

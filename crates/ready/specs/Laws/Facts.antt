@@ -3,16 +3,16 @@ use Rattle.std.specs.Prelude.{ℕ, ◌+◌, ◌-◌, ◌≤◌, Bool, true, fals
 use Rattle.std.proofs.Common.{sym}
 use Rattle.std.proofs.Math.Logic.{inl, inr, ⊎_elim}
 use borrow.Author.Tests.{leb-true, le-leb, eqb-true, eq-eqb, eqb-false}
-use Rattle.laws.specs.Choice.{either, also_left, also_right, also_both, either_left, either_right, either_cases, false-true, ruin, split-bool}
+use Rattle.laws.specs.Choice.{either, also_left, also_right, also_both, either_left, either_right, either_cases, false_true, ruin, split_bool}
 use Rattle.layout.specs.declared.Geometry.{Geometry}
 use Rattle.layout.specs.declared.Location.{Location}
 use Rattle.layout.specs.Journal.{journal_pos_add}
-use Rattle.layout.specs.Laws.{ValidIndirectionTableLocation, table_location_facts, facts_table_location, same_location, location_same}
+use Rattle.layout.specs.Laws.{ValidIndirectionTableLocation, table_location_facts, facts_table_location, same_location_is, location_same}
 use Rattle.superblock.specs.declared.Superblock.{Superblock}
 use Rattle.superblock.specs.Superblock.{increment_superblock_counter}
 use Rattle.superblock.specs.Laws.{WFSuperblock, superblock_facts, facts_superblock}
 use Rattle.tables.specs.Rows.{Counted}
-use Rattle.tables.specs.Laws.Counts.{counted_facts, facts_counted}
+use Rattle.tables.proofs.Laws.Counts.{counted_facts, facts_counted}
 use Rattle.ready.specs.declared.MaybeLocation.{MaybeLocation}
 use Rattle.ready.specs.declared.MaybeLocation.TheVariants.{NoLocation, Received}
 use Rattle.ready.specs.declared.Frozen.{Frozen}
@@ -27,7 +27,7 @@ use Rattle.ready.specs.Inv.{most_writes, extent_ok, frozen_ok, location_ok, rece
 if_then : (a b : Bool) → either (not a) b ≡ true → a ≡ true → b ≡ true
 unfolding either
 if_then true b e h = e
-if_then false b e h = false-true h
+if_then false b e h = false_true h
 
 then_if : (a b : Bool) → (a ≡ true → b ≡ true) → either (not a) b ≡ true
 unfolding either
@@ -60,47 +60,47 @@ pub record PositionIn (g : Geometry) (written len position : ℕ) : Type 0 where
   pub len_written : len ≤ written
   pub position_written : position ≤ written
 
-frozen_facts : (g : Geometry) (written len : ℕ) (f : Frozen) → frozen_ok g written len f ≡ true → f.is_frozen ≡ true → PositionIn g written len f.frozen_journal_position
+frozen_facts : (g : Geometry) (written len : ℕ) (f : Frozen) → frozen_ok g written len f ≡ true → f.isFrozen ≡ true → PositionIn g written len f.frozenJournalPosition
 unfolding frozen_ok
 frozen_facts g written len f e h =
-    let b = if_then f.is_frozen _ e h in
+    let b = if_then f.isFrozen _ e h in
     let b1 = also_left _ _ b in
     record {
-      position_in = leb-true f.frozen_journal_position g.blocks (also_left _ _ b1);
+      position_in = leb-true f.frozenJournalPosition g.blocks (also_left _ _ b1);
       len_written = leb-true len written (also_right _ _ b1);
-      position_written = leb-true f.frozen_journal_position written (also_right _ _ b);
+      position_written = leb-true f.frozenJournalPosition written (also_right _ _ b);
     }
 
-facts_frozen : (g : Geometry) (written len : ℕ) (f : Frozen) → (f.is_frozen ≡ true → PositionIn g written len f.frozen_journal_position) → frozen_ok g written len f ≡ true
+facts_frozen : (g : Geometry) (written len : ℕ) (f : Frozen) → (f.isFrozen ≡ true → PositionIn g written len f.frozenJournalPosition) → frozen_ok g written len f ≡ true
 unfolding frozen_ok
 facts_frozen g written len f k =
-    then_if f.is_frozen _
+    then_if f.isFrozen _
     (λ h.
     let p = k h in
     also_both _ _
-    (also_both _ _ (le-leb f.frozen_journal_position g.blocks p.position_in) (le-leb len written p.len_written))
-    (le-leb f.frozen_journal_position written p.position_written))
+    (also_both _ _ (le-leb f.frozenJournalPosition g.blocks p.position_in) (le-leb len written p.len_written))
+    (le-leb f.frozenJournalPosition written p.position_written))
 
 -- of a received location
-pub record LocationIn (g : Geometry) (is_frozen : Bool) (loc : Location) : Type 0 where
+pub record LocationIn (g : Geometry) (isFrozen : Bool) (loc : Location) : Type 0 where
   pub loc_valid : ValidIndirectionTableLocation g loc
-  pub frozen : is_frozen ≡ true
+  pub frozen : isFrozen ≡ true
 
-received_facts : (g : Geometry) (f : Frozen) → received_ok g f ≡ true → (loc : Location) → f.frozen_loc ≡ Received loc → LocationIn g f.is_frozen loc
+received_facts : (g : Geometry) (f : Frozen) → received_ok g f ≡ true → (loc : Location) → f.frozenLoc ≡ Received loc → LocationIn g f.isFrozen loc
 unfolding received_ok
-received_facts g f = go f.frozen_loc
+received_facts g f = go f.frozenLoc
   where
-    go : (m : MaybeLocation) → location_ok g f.is_frozen m ≡ true → (loc : Location) → m ≡ Received loc → LocationIn g f.is_frozen loc
+    go : (m : MaybeLocation) → location_ok g f.isFrozen m ≡ true → (loc : Location) → m ≡ Received loc → LocationIn g f.isFrozen loc
     go NoLocation e loc h = ruin (cc)
     go (Received received) e loc h =
         let same : received ≡ loc = cc in
         rw (sym same) (record { loc_valid = table_location_facts g received (also_left _ _ e); frozen = also_right _ _ e })
 
-facts_received : (g : Geometry) (f : Frozen) → ((loc : Location) → f.frozen_loc ≡ Received loc → LocationIn g f.is_frozen loc) → received_ok g f ≡ true
+facts_received : (g : Geometry) (f : Frozen) → ((loc : Location) → f.frozenLoc ≡ Received loc → LocationIn g f.isFrozen loc) → received_ok g f ≡ true
 unfolding received_ok
-facts_received g f = go f.frozen_loc
+facts_received g f = go f.frozenLoc
   where
-    go : (m : MaybeLocation) → ((loc : Location) → m ≡ Received loc → LocationIn g f.is_frozen loc) → location_ok g f.is_frozen m ≡ true
+    go : (m : MaybeLocation) → ((loc : Location) → m ≡ Received loc → LocationIn g f.isFrozen loc) → location_ok g f.isFrozen m ≡ true
     go NoLocation k = refl
     go (Received loc) k = let l = k loc refl in also_both _ _ (facts_table_location g loc l.loc_valid) l.frozen
 
@@ -115,7 +115,7 @@ unfolding advance_log_ok
 log_facts written superblock new e =
     let e1 = also_left _ _ e in
     record {
-      new_loc = same_location new.indirectionTableLoc superblock.indirectionTableLoc (also_left _ _ e1);
+      new_loc = same_location_is new.indirectionTableLoc superblock.indirectionTableLoc (also_left _ _ e1);
       new_start = eqb-true new.journalStart superblock.journalStart (also_right _ _ e1);
       new_len = eqb-true new.journalLen written (also_right _ _ e);
     }
@@ -129,11 +129,11 @@ facts_log written superblock new f =
 
 -- of a location commit
 pub record AdvancesLocation (g : Geometry) (written : ℕ) (f : Frozen) (superblock new : Superblock) : Type 0 where
-  pub frozen : f.is_frozen ≡ true
-  pub received : is_received f.frozen_loc ≡ true
-  pub new_start : new.journalStart ≡ journal_pos_add g superblock.journalStart f.frozen_journal_position
-  pub new_len : new.journalLen ≡ written - f.frozen_journal_position
-  pub new_end : f.frozen_journal_position + new.journalLen ≤ written
+  pub frozen : f.isFrozen ≡ true
+  pub received : is_received f.frozenLoc ≡ true
+  pub new_start : new.journalStart ≡ journal_pos_add g superblock.journalStart f.frozenJournalPosition
+  pub new_len : new.journalLen ≡ written - f.frozenJournalPosition
+  pub new_end : f.frozenJournalPosition + new.journalLen ≤ written
 
 module _ (g : Geometry) (written : ℕ) (f : Frozen) (superblock new : Superblock) where
   location_facts : advance_location_ok g written f superblock new ≡ true → AdvancesLocation g written f superblock new
@@ -145,9 +145,9 @@ module _ (g : Geometry) (written : ℕ) (f : Frozen) (superblock new : Superbloc
       record {
         frozen = also_left _ _ e3;
         received = also_right _ _ e3;
-        new_start = eqb-true new.journalStart (journal_pos_add g superblock.journalStart f.frozen_journal_position) (also_right _ _ e2);
-        new_len = eqb-true new.journalLen (written - f.frozen_journal_position) (also_right _ _ e1);
-        new_end = leb-true (f.frozen_journal_position + new.journalLen) written (also_right _ _ e);
+        new_start = eqb-true new.journalStart (journal_pos_add g superblock.journalStart f.frozenJournalPosition) (also_right _ _ e2);
+        new_len = eqb-true new.journalLen (written - f.frozenJournalPosition) (also_right _ _ e1);
+        new_end = leb-true (f.frozenJournalPosition + new.journalLen) written (also_right _ _ e);
       }
 
   facts_location : AdvancesLocation g written f superblock new → advance_location_ok g written f superblock new ≡ true
@@ -156,26 +156,26 @@ module _ (g : Geometry) (written : ℕ) (f : Frozen) (superblock new : Superbloc
       also_both _ _
       (also_both _ _
       (also_both _ _ (also_both _ _ a.frozen a.received)
-      (eq-eqb new.journalStart (journal_pos_add g superblock.journalStart f.frozen_journal_position) a.new_start))
-      (eq-eqb new.journalLen (written - f.frozen_journal_position) a.new_len))
-      (le-leb (f.frozen_journal_position + new.journalLen) written a.new_end)
+      (eq-eqb new.journalStart (journal_pos_add g superblock.journalStart f.frozenJournalPosition) a.new_start))
+      (eq-eqb new.journalLen (written - f.frozenJournalPosition) a.new_len))
+      (le-leb (f.frozenJournalPosition + new.journalLen) written a.new_end)
 
 -- the received location is this one
 pub received_is : (m : MaybeLocation) (loc : Location) → is_location m loc ≡ true → m ≡ Received loc
-received_is NoLocation loc e = false-true e
-received_is (Received received) loc e = λ i. Received (same_location received loc e i)
+received_is NoLocation loc e = false_true e
+received_is (Received received) loc e = λ i. Received (same_location_is received loc e i)
 
-pub is_received : (m : MaybeLocation) (loc : Location) → m ≡ Received loc → is_location m loc ≡ true
-is_received NoLocation loc e = ruin (cc)
-is_received (Received received) loc e = location_same received loc (cc)
+pub is_received_is : (m : MaybeLocation) (loc : Location) → m ≡ Received loc → is_location m loc ≡ true
+is_received_is NoLocation loc e = ruin (cc)
+is_received_is (Received received) loc e = location_same received loc (cc)
 
 -- of either commit's new superblock
 pub record IsNew (g : Geometry) (r : Ready) (new : Superblock) : Type 0 where
-  pub none_outstanding : r.writes.count ≡ 0
-  pub new_loc : (new.indirectionTableLoc ≡ r.superblock.indirectionTableLoc) ⊎ (r.frozen.frozen_loc ≡ Received new.indirectionTableLoc)
+  pub none_outstanding_is : r.writes.count ≡ 0
+  pub new_loc : (new.indirectionTableLoc ≡ r.superblock.indirectionTableLoc) ⊎ (r.frozen.frozenLoc ≡ Received new.indirectionTableLoc)
   pub new_wf : WFSuperblock g new
   pub new_counter : new.counter ≡ increment_superblock_counter r.superblock.counter
-  pub none_frozen : r.entries.frozen ≡ 0
+  pub none_frozen_is : r.entries.frozen ≡ 0
 
 module _ (g : Geometry) (r : Ready) (new : Superblock) where
   new_facts : new_ok g r new ≡ true → IsNew g r new
@@ -185,15 +185,15 @@ module _ (g : Geometry) (r : Ready) (new : Superblock) where
       let e2 = also_left _ _ e1 in
       let e3 = also_left _ _ e2 in
       record {
-        none_outstanding = eqb-true r.writes.count 0 (also_left _ _ e3);
+        none_outstanding_is = eqb-true r.writes.count 0 (also_left _ _ e3);
         new_loc =
             ⊎_elim
-            (λ h. inl (same_location new.indirectionTableLoc r.superblock.indirectionTableLoc h))
-            (λ h. inr (received_is r.frozen.frozen_loc new.indirectionTableLoc h))
+            (λ h. inl (same_location_is new.indirectionTableLoc r.superblock.indirectionTableLoc h))
+            (λ h. inr (received_is r.frozen.frozenLoc new.indirectionTableLoc h))
             (either_cases _ _ (also_right _ _ e3));
         new_wf = superblock_facts g new (also_right _ _ e2);
         new_counter = eqb-true new.counter (increment_superblock_counter r.superblock.counter) (also_right _ _ e1);
-        none_frozen = eqb-true r.entries.frozen 0 (also_right _ _ e);
+        none_frozen_is = eqb-true r.entries.frozen 0 (also_right _ _ e);
       }
 
   facts_new : IsNew g r new → new_ok g r new ≡ true
@@ -202,61 +202,61 @@ module _ (g : Geometry) (r : Ready) (new : Superblock) where
       also_both _ _
       (also_both _ _
       (also_both _ _
-      (also_both _ _ (eq-eqb r.writes.count 0 n.none_outstanding)
+      (also_both _ _ (eq-eqb r.writes.count 0 n.none_outstanding_is)
       (⊎_elim
       (λ h. either_left _ _ (location_same new.indirectionTableLoc r.superblock.indirectionTableLoc h))
-      (λ h. either_right _ _ (is_received r.frozen.frozen_loc new.indirectionTableLoc h))
+      (λ h. either_right _ _ (is_received_is r.frozen.frozenLoc new.indirectionTableLoc h))
       n.new_loc))
       (facts_superblock g new n.new_wf))
       (eq-eqb new.counter (increment_superblock_counter r.superblock.counter) n.new_counter))
-      (eq-eqb r.entries.frozen 0 n.none_frozen)
+      (eq-eqb r.entries.frozen 0 n.none_frozen_is)
 
 -- of the commit in flight, by its case
 abbrev pub InFlight : Geometry → Ready → Commit → Type 0
 InFlight g r CommitNone = Unit {0}
-InFlight g r (CommitAdvanceLog id new) = AdvancesLog r.written_journal_len r.superblock new × IsNew g r new
-InFlight g r (CommitAdvanceLocation id new) = AdvancesLocation g r.written_journal_len r.frozen r.superblock new × IsNew g r new
+InFlight g r (CommitAdvanceLog id new) = AdvancesLog r.writtenJournalLen r.superblock new × IsNew g r new
+InFlight g r (CommitAdvanceLocation id new) = AdvancesLocation g r.writtenJournalLen r.frozen r.superblock new × IsNew g r new
 
 in_flight_facts : (g : Geometry) (r : Ready) (c : Commit) → in_flight_ok g r c ≡ true → InFlight g r c
 in_flight_facts g r CommitNone e = tt
-in_flight_facts g r (CommitAdvanceLog id new) e = (log_facts r.written_journal_len r.superblock new (also_left _ _ e), new_facts g r new (also_right _ _ e))
+in_flight_facts g r (CommitAdvanceLog id new) e = (log_facts r.writtenJournalLen r.superblock new (also_left _ _ e), new_facts g r new (also_right _ _ e))
 in_flight_facts g r (CommitAdvanceLocation id new) e =
-    (location_facts g r.written_journal_len r.frozen r.superblock new (also_left _ _ e), new_facts g r new (also_right _ _ e))
+    (location_facts g r.writtenJournalLen r.frozen r.superblock new (also_left _ _ e), new_facts g r new (also_right _ _ e))
 
 facts_in_flight : (g : Geometry) (r : Ready) (c : Commit) → InFlight g r c → in_flight_ok g r c ≡ true
 facts_in_flight g r CommitNone f = refl
-facts_in_flight g r (CommitAdvanceLog id new) f = also_both _ _ (facts_log r.written_journal_len r.superblock new f.0) (facts_new g r new f.1)
+facts_in_flight g r (CommitAdvanceLog id new) f = also_both _ _ (facts_log r.writtenJournalLen r.superblock new f.0) (facts_new g r new f.1)
 facts_in_flight g r (CommitAdvanceLocation id new) f =
-    also_both _ _ (facts_location g r.written_journal_len r.frozen r.superblock new f.0) (facts_new g r new f.1)
+    also_both _ _ (facts_location g r.writtenJournalLen r.frozen r.superblock new f.0) (facts_new g r new f.1)
 
 -- of frozen entries
-pub record SomeFrozen (written position : ℕ) (is_frozen : Bool) : Type 0 where
+pub record SomeFrozen (written position : ℕ) (isFrozen : Bool) : Type 0 where
   pub position_is : position ≡ written
-  pub frozen : is_frozen ≡ true
+  pub frozen : isFrozen ≡ true
 
-some_frozen_facts : (written position : ℕ) (is_frozen : Bool) (e : Entries) → some_frozen_ok written position is_frozen e ≡ true → (e.frozen ≡ 0 → ⊥) → SomeFrozen written position is_frozen
+some_frozen_facts : (written position : ℕ) (isFrozen : Bool) (e : Entries) → some_frozen_ok written position isFrozen e ≡ true → (e.frozen ≡ 0 → ⊥) → SomeFrozen written position isFrozen
 unfolding some_frozen_ok
-some_frozen_facts written position is_frozen e t h =
+some_frozen_facts written position isFrozen e t h =
     ⊎_elim
     (λ z. absurd (h (eqb-true e.frozen 0 z)))
     (λ b. record { position_is = eqb-true position written (also_left _ _ b); frozen = also_right _ _ b })
     (either_cases _ _ t)
 
-facts_some_frozen : (written position : ℕ) (is_frozen : Bool) (e : Entries) → ((e.frozen ≡ 0 → ⊥) → SomeFrozen written position is_frozen) → some_frozen_ok written position is_frozen e ≡ true
+facts_some_frozen : (written position : ℕ) (isFrozen : Bool) (e : Entries) → ((e.frozen ≡ 0 → ⊥) → SomeFrozen written position isFrozen) → some_frozen_ok written position isFrozen e ≡ true
 unfolding some_frozen_ok
-facts_some_frozen written position is_frozen e k =
-    split-bool (eqb e.frozen 0)
+facts_some_frozen written position isFrozen e k =
+    split_bool (eqb e.frozen 0)
     (λ z. either_left _ _ z)
     (λ n. let s = k (eqb-false e.frozen 0 n) in either_right _ _ (also_both _ _ (eq-eqb position written s.position_is) s.frozen))
 
 -- the whole
 pub record ReadyFacts (g : Geometry) (r : Ready) : Type 0 where
-  pub extent : Extent g r.which_superblock r.written_journal_len r.superblock.journalLen
-  pub if_frozen : r.frozen.is_frozen ≡ true → PositionIn g r.written_journal_len r.superblock.journalLen r.frozen.frozen_journal_position
-  pub if_received : (loc : Location) → r.frozen.frozen_loc ≡ Received loc → LocationIn g r.frozen.is_frozen loc
+  pub extent : Extent g r.whichSuperblock r.writtenJournalLen r.superblock.journalLen
+  pub if_frozen : r.frozen.isFrozen ≡ true → PositionIn g r.writtenJournalLen r.superblock.journalLen r.frozen.frozenJournalPosition
+  pub if_received : (loc : Location) → r.frozen.frozenLoc ≡ Received loc → LocationIn g r.frozen.isFrozen loc
   pub superblock_wf : WFSuperblock g r.superblock
-  pub in_flight : InFlight g r r.commit
-  pub if_some_frozen : (r.entries.frozen ≡ 0 → ⊥) → SomeFrozen r.written_journal_len r.frozen.frozen_journal_position r.frozen.is_frozen
+  pub in_flight_is : InFlight g r r.commit
+  pub if_some_frozen : (r.entries.frozen ≡ 0 → ⊥) → SomeFrozen r.writtenJournalLen r.frozen.frozenJournalPosition r.frozen.isFrozen
   pub frozen_within : r.entries.frozen ≤ r.entries.pending
   pub taken_within : r.entries.taken.entries ≤ r.entries.replay
   pub writes_counted : Counted most_writes r.writes.count r.writes.ids
@@ -273,12 +273,12 @@ module _ (g : Geometry) (r : Ready) where
       let a3 = also_left _ _ a2 in
       let a4 = also_left _ _ a3 in
       record {
-        extent = extent_facts g r.which_superblock r.written_journal_len r.superblock.journalLen (also_left _ _ a4);
-        if_frozen = frozen_facts g r.written_journal_len r.superblock.journalLen r.frozen (also_right _ _ a4);
+        extent = extent_facts g r.whichSuperblock r.writtenJournalLen r.superblock.journalLen (also_left _ _ a4);
+        if_frozen = frozen_facts g r.writtenJournalLen r.superblock.journalLen r.frozen (also_right _ _ a4);
         if_received = received_facts g r.frozen (also_right _ _ a3);
         superblock_wf = superblock_facts g r.superblock (also_right _ _ a2);
-        in_flight = in_flight_facts g r r.commit (also_right _ _ a1);
-        if_some_frozen = some_frozen_facts r.written_journal_len r.frozen.frozen_journal_position r.frozen.is_frozen r.entries (also_right _ _ a);
+        in_flight_is = in_flight_facts g r r.commit (also_right _ _ a1);
+        if_some_frozen = some_frozen_facts r.writtenJournalLen r.frozen.frozenJournalPosition r.frozen.isFrozen r.entries (also_right _ _ a);
         frozen_within = leb-true r.entries.frozen r.entries.pending (also_left _ _ b);
         taken_within = leb-true r.entries.taken.entries r.entries.replay (also_right _ _ b);
         writes_counted = counted_facts most_writes r.writes.count r.writes.ids (also_right _ _ e);
@@ -293,11 +293,11 @@ module _ (g : Geometry) (r : Ready) where
       (also_both _ _
       (also_both _ _
       (also_both _ _
-      (also_both _ _ (facts_extent g r.which_superblock r.written_journal_len r.superblock.journalLen f.extent)
-      (facts_frozen g r.written_journal_len r.superblock.journalLen r.frozen f.if_frozen))
+      (also_both _ _ (facts_extent g r.whichSuperblock r.writtenJournalLen r.superblock.journalLen f.extent)
+      (facts_frozen g r.writtenJournalLen r.superblock.journalLen r.frozen f.if_frozen))
       (facts_received g r.frozen f.if_received))
       (facts_superblock g r.superblock f.superblock_wf))
-      (facts_in_flight g r r.commit f.in_flight))
-      (facts_some_frozen r.written_journal_len r.frozen.frozen_journal_position r.frozen.is_frozen r.entries f.if_some_frozen))
+      (facts_in_flight g r r.commit f.in_flight_is))
+      (facts_some_frozen r.writtenJournalLen r.frozen.frozenJournalPosition r.frozen.isFrozen r.entries f.if_some_frozen))
       (also_both _ _ (le-leb r.entries.frozen r.entries.pending f.frozen_within) (le-leb r.entries.taken.entries r.entries.replay f.taken_within)))
       (facts_counted most_writes r.writes.count r.writes.ids f.writes_counted)

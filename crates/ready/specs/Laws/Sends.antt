@@ -1,7 +1,7 @@
 -- What a commit sends tells the number of its questions, and what it is made of.
 use Rattle.std.specs.Prelude.{ℕ, Bool, true, false, cond, ◌≡◌, refl, eqb}
 use Rattle.std.proofs.Common.{sym, ◌∙◌, ap, ⊎_elim}
-use Rattle.laws.specs.Choice.{asked_either, ask_fails, also_left, not_so, false-true, ruin}
+use Rattle.laws.specs.Choice.{asked_either, ask_fails, also_left, not_so, false_true, ruin}
 use Rattle.layout.specs.declared.Geometry.{Geometry}
 use Rattle.layout.specs.declared.Location.{Location}
 use Rattle.superblock.specs.declared.Superblock.{Superblock}
@@ -30,9 +30,9 @@ module _ (q : ℕ) (superblock : Superblock) (w : NewSuperblock) (e : w ≡ new_
       (asked_either q (new.Is superblock) (new.Refused q) w (sym e))
 
 -- and a location commit's, by the location last received
-unreceived : (g : Geometry) (r : Ready) → is_received r.frozen.frozen_loc ≡ false → ask_advance_location g r ≡ 6
+unreceived : (g : Geometry) (r : Ready) → is_received r.frozen.frozenLoc ≡ false → ask_advance_location g r ≡ 6
 unfolding ask_advance_location
-unreceived g r e = ask_fails 6 _ (not_so _ (λ t. false-true (sym e ∙ also_left _ _ (also_left _ _ (also_left _ _ (also_left _ _ t))))))
+unreceived g r e = ask_fails 6 _ (not_so _ (λ t. false_true (sym e ∙ also_left _ _ (also_left _ _ (also_left _ _ (also_left _ _ t))))))
 
 module _ (g : Geometry) (r : Ready) (w : NewSuperblock) where
   location_refused_by : (x : MaybeLocation) → (is_received x ≡ false → ask_advance_location g r ≡ 6) → w ≡ to_location g r x → (n : ℕ) → w ≡ new.Refused n
@@ -42,7 +42,7 @@ module _ (g : Geometry) (r : Ready) (w : NewSuperblock) where
 
   pub location_refused : w ≡ advance_location g r → (n : ℕ) → w ≡ new.Refused n → (ask_advance_location g r ≡ 0 → ⊥) × (n ≡ ask_advance_location g r)
   unfolding advance_location
-  location_refused e n h = location_refused_by r.frozen.frozen_loc (unreceived g r) e n h
+  location_refused e n h = location_refused_by r.frozen.frozenLoc (unreceived g r) e n h
 
   location_sent_by : (x : MaybeLocation) → w ≡ to_location g r x → (s : Superblock) → w ≡ new.Is s
       → (ask_advance_location g r ≡ 0) × ((loc : Location) × (x ≡ Received loc) × (s ≡ advanced_location g r loc))
@@ -51,6 +51,6 @@ module _ (g : Geometry) (r : Ready) (w : NewSuperblock) where
       let k = new_sent (ask_advance_location g r) (advanced_location g r loc) w e s h in (k.0, (loc, refl, k.1))
 
   pub location_sent : w ≡ advance_location g r → (s : Superblock) → w ≡ new.Is s
-      → (ask_advance_location g r ≡ 0) × ((loc : Location) × (r.frozen.frozen_loc ≡ Received loc) × (s ≡ advanced_location g r loc))
+      → (ask_advance_location g r ≡ 0) × ((loc : Location) × (r.frozen.frozenLoc ≡ Received loc) × (s ≡ advanced_location g r loc))
   unfolding advance_location
-  location_sent e s h = location_sent_by r.frozen.frozen_loc e s h
+  location_sent e s h = location_sent_by r.frozen.frozenLoc e s h

@@ -8,12 +8,12 @@ use Rattle.laws.specs.Choice.{ruin}
 use Rattle.laws.specs.Cut.{flat}
 use Rattle.laws.specs.Bytes.{is_byte, Bytes}
 use Rattle.laws.specs.Fold.{Each}
-use Rattle.laws.specs.Sets.{Two, at, both, none-some}
+use Rattle.laws.specs.Sets.{Two, at, both, none_some}
 use Rattle.layout.specs.declared.Geometry.{Geometry}
 use Rattle.interval.specs.Facts.{ValidJournalInterval}
 use Rattle.interval.specs.Interval.{interval}
-use Rattle.interval.specs.Journal.{JournalBlock, CyclicSlice, full_range}
-use Rattle.interval.specs.Laws.{length_slice}
+use Rattle.interval.specs.Journal.{JournalBlock, cyclic_slice, full_range}
+use Rattle.interval.proofs.Laws.{length_slice}
 use Rattle.superblock.specs.declared.Superblock.{Superblock}
 use Rattle.superblock.specs.Laws.{WFSuperblock}
 use Rattle.journal.specs.Cells.{blocks_in, length_bytes}
@@ -23,7 +23,8 @@ use Rattle.range.specs.Form.{Entry, length_width, most_entry_length, encode_all_
 use Rattle.range.specs.Blocks.{format_sizes}
 use Rattle.range.specs.Ranges.{parse_all_some, parse_all_iff}
 use Rattle.codec.specs.Codec.{JournalRange, Sized, concat_fold}
-use Rattle.codec.specs.Format.{format, codes_sized, flat_codes, each_good}
+use Rattle.codec.specs.Format.{format, codes_sized, flat_codes}
+use Rattle.codec.proofs.Good.{each_good}
 use Rattle.codec.specs.Ranges.{Good, codes, blocks, whole, full_whole, length_codes}
 use Rattle.source.specs.JournalDisk as D
 use Rattle.source.specs.JournalCache as M
@@ -32,22 +33,22 @@ use Rattle.source.specs.JournalSystem as Y
 use Rattle.source.specs.Limits.{limits}
 use Rattle.history.specs.Ledger.{Call, Kept, fresh, shown}
 use Rattle.history.specs.Statement.{ready_by}
-use Rattle.history.specs.Journal.Slots.{parity, picked, picked_is, Slots, slots_wf}
-use Rattle.history.specs.Simulation.Relation.{super_of, Sim}
-use Rattle.history.specs.Loads.Comes.{load_calls, taken, comes_trace, comes_loads}
-use Rattle.history.specs.Loads.Superblocks.{resting, limits_room}
-use Rattle.history.specs.Loads.Loads.{comes_up}
+use Rattle.history.proofs.Journal.Slots.{parity, picked, picked_is, Slots, slots_wf_is}
+use Rattle.history.proofs.Simulation.Relation.{super_of, Sim}
+use Rattle.history.proofs.Loads.Comes.{load_calls, taken, comes_trace, comes_loads}
+use Rattle.history.proofs.Loads.Superblocks.{resting, limits_room}
+use Rattle.history.proofs.Loads.Loads.{comes_up}
 use Rattle.sector.specs.declared.SectorRead.TheVariants as read
 use Rattle.sector.specs.Sector.{sector_size}
 use Rattle.image.specs.Image.{Lent, slot_read, superblock1, superblock2, selected, journal_of, interval_of, interval_bytes, interval_entries, ask_lent, chosen, unmarked, ask_record}
-use Rattle.image.specs.Asked.{SlotsAsked, image_asked, slot_holds}
-use Rattle.image.specs.Found.{interval_is, interval_every, chosen_record}
+use Rattle.image.specs.Asked.{SlotsAsked, image_asked, slot_holds_is}
+use Rattle.image.proofs.FoundLaws.{interval_is, interval_every, chosen_record}
 use Rattle.records.specs.Pictures.{said, Pictures, at_rest, Brought}
 use Rattle.records.specs.Proofs.Loadable.{journal_size, image_blocks, loadable_record}
 use Rattle.records.specs.Proofs.Loads.{any_load, only_of}
 
 module _ (g : Geometry) (disk : List ℕ) (l : Lent) (slots : Two (Option Superblock)) (j : List (Option JournalBlock)) (pic : Pictures g disk (resting slots j)) (size : length j ≡ g.blocks)
-    (full : full_range (CyclicSlice g j (interval_of (selected disk))) ≡ true) (bytes : Bytes disk) (given : (ask_record g disk (unmarked g disk l)).number ≡ 0) where
+    (full : full_range (cyclic_slice g j (interval_of (selected disk))) ≡ true) (bytes : Bytes disk) (given : (ask_record g disk (unmarked g disk l)).number ≡ 0) where
   asked : SlotsAsked g (slot_read disk 0) (slot_read disk sector_size) (ask_lent g disk l)
   asked = (chosen_record g disk (ask_lent g disk l) given).0
 
@@ -72,22 +73,22 @@ module _ (g : Geometry) (disk : List ℕ) (l : Lent) (slots : Two (Option Superb
       }
     where
       holds : (b : Bool) → at slots b ≡ some (at values b)
-      holds true = pic.second ∙ ap said (slot_holds disk sector_size asked.second_read)
-      holds false = pic.first ∙ ap said (slot_holds disk 0 asked.first_read)
+      holds true = pic.second ∙ ap said (slot_holds_is disk sector_size asked.second_read)
+      holds false = pic.first ∙ ap said (slot_holds_is disk 0 asked.first_read)
 
       wf : (b : Bool) → WFSuperblock g (at values b)
       wf true = asked.second_formed
       wf false = asked.first_formed
 
   valid : ValidJournalInterval g (interval_of (selected disk))
-  valid = let f = slots_wf g slots _ (selected disk) slots_are in record { start_in = f.start_in; len_in = f.len_in }
+  valid = let f = slots_wf_is g slots _ (selected disk) slots_are in record { start_in = f.start_in; len_in = f.len_in }
 
   -- the blocks that the interval holds, as they are read and as the image has them
   abbrev held : JournalRange
-  held = concat_fold (CyclicSlice g j (interval_of (selected disk)))
+  held = concat_fold (cyclic_slice g j (interval_of (selected disk)))
 
-  held_is : CyclicSlice g j (interval_of (selected disk)) ≡ whole held
-  held_is = sym (full_whole (CyclicSlice g j (interval_of (selected disk))) full)
+  held_is : cyclic_slice g j (interval_of (selected disk)) ≡ whole held
+  held_is = sym (full_whole (cyclic_slice g j (interval_of (selected disk))) full)
 
   held_long : length held ≡ (selected disk).journalLen
   held_long =
@@ -142,11 +143,11 @@ module _ (g : Geometry) (disk : List ℕ) (l : Lent) (slots : Two (Option Superb
               parity_is = refl;
               size = size;
               holds =
-                  (λ i. CyclicSlice g j (interval (selected disk).journalStart ((length_codes format rs ∙ blocks_are) i)))
+                  (λ i. cyclic_slice g j (interval (selected disk).journalStart ((length_codes format rs ∙ blocks_are) i)))
                   ∙ held_is
                   ∙ ap whole (sym codes_held);
               good = each_good rs cut_up.1;
-              clear = λ id v e. none-some refl e;
+              clear = λ id v e. none_some refl e;
             };
         runs = (record { writes_are = refl; none_writing = refl; ledger_is = refl }, λ which v e. ruin (unread which v e));
       }
@@ -167,7 +168,7 @@ module _ (g : Geometry) (disk : List ℕ) (l : Lent) (slots : Two (Option Superb
         only_loads = comes_loads up;
         ready_is = refl;
         same =
-            loadable_record g disk size_is (resting slots j) pic at_ready.which_superblock at_ready.superblock at_ready.replay_journal
+            loadable_record g disk size_is (resting slots j) pic at_ready.whichSuperblock at_ready.superblock at_ready.replay_journal
             (any_load g (at_rest slots j) ready_state xs (taken xs) at_ready refl (only_of xs (taken xs) (comes_loads up)) (comes_trace up) refl)
             l (unmarked g disk l) (ap (chosen g disk) asked.lent_asked) at_ready refl refl refl;
       }

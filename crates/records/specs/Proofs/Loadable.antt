@@ -4,10 +4,10 @@ use Rattle.std.specs.Prelude.{ℕ, ◌+◌, ◌*◌, ◌<◌, Bool, true, false,
 use Rattle.std.proofs.Common.{sym, ◌∙◌, ap, subst, arith, ext_get_or}
 use Rattle.std.proofs.Math.Option.{Option, none, some}
 use Rattle.std.proofs.lemmas.List.{length-map}
-use Rattle.laws.specs.Choice.{ruin, split-eq, ask_holds}
+use Rattle.laws.specs.Choice.{ruin, split_eq, ask_holds}
 use Rattle.laws.specs.Cut.{flat, lengths}
 use Rattle.laws.specs.Fold.{sum}
-use Rattle.laws.specs.Part.{length_part, getD-map-in}
+use Rattle.laws.specs.Part.{length_part, get_d_map_in}
 use Rattle.laws.specs.Ring.{wrap, wrap_in}
 use Rattle.laws.specs.Splice.{splice}
 use Rattle.laws.specs.Sets.{Two, at, same_value}
@@ -15,8 +15,8 @@ use Rattle.layout.specs.declared.Geometry.{Geometry}
 use Rattle.interval.specs.declared.JournalInterval.{JournalInterval}
 use Rattle.interval.specs.Interval.{interval}
 use Rattle.interval.specs.Facts.{ValidJournalInterval}
-use Rattle.interval.specs.Journal.{JournalBlock, CyclicSlice}
-use Rattle.interval.specs.Laws.{slice_at, length_slice}
+use Rattle.interval.specs.Journal.{JournalBlock, cyclic_slice}
+use Rattle.interval.proofs.Laws.{slice_at, length_slice}
 use Rattle.superblock.specs.declared.Superblock.{Superblock}
 use Rattle.superblock.specs.Superblock.{increment_superblock_counter, select_superblock, select_superblock_index}
 use Rattle.superblock.specs.Laws.{selects_second, selects_first}
@@ -30,8 +30,8 @@ use Rattle.codec.specs.Ranges.{codes, whole, whole_same, length_codes, parse_cod
 use Rattle.source.specs.JournalDisk as D
 use Rattle.source.specs.JournalCache as M
 use Rattle.history.specs.Ledger.{Kept}
-use Rattle.history.specs.Journal.Slots.{bit, picked, picked_is, Slots, slots_wf}
-use Rattle.history.specs.Simulation.Relation.{super_of, OnDisk}
+use Rattle.history.proofs.Journal.Slots.{bit, picked, picked_is, Slots, slots_wf_is}
+use Rattle.history.proofs.Simulation.Relation.{super_of, OnDisk}
 use Rattle.sector.specs.declared.SectorRead.{SectorRead}
 use Rattle.sector.specs.declared.SectorRead.TheVariants as read
 use Rattle.sector.specs.Sector.{sector_size}
@@ -39,7 +39,7 @@ use Rattle.image.specs.declared.Choice.{Choice}
 use Rattle.image.specs.declared.Recorded.TheVariants as recorded
 use Rattle.image.specs.Image.{Lent, slot_read, selected, which, journal_of, interval_of, interval_bytes, interval_entries, ask_parse, refusal, chosen, readable}
 use Rattle.image.specs.Asked.{readable_asked, chosen_holds}
-use Rattle.image.specs.Found.{held_yes, bytes_yes, lens_yes, interval_is}
+use Rattle.image.proofs.FoundLaws.{held_yes, bytes_yes, lens_yes, interval_is}
 use Rattle.records.specs.Pictures.{said, Pictures, RecordIs}
 
 -- what a slot says, taken apart
@@ -50,7 +50,7 @@ said_holds (read.Refused q) v e = ruin (cc)
 -- the slot that is selected, as a number
 pub index_bit : (t : Two Superblock) → select_superblock_index t.first t.second ≡ bit (picked t)
 index_bit t =
-    split-eq t.second.counter (increment_superblock_counter t.first.counter)
+    split_eq t.second.counter (increment_superblock_counter t.first.counter)
     (λ e. let s = selects_second t.first t.second e in s ∙ sym (ap (λ (n : ℕ). bit (eqb n 1)) s))
     (λ f. let s = selects_first t.first t.second f in s ∙ sym (ap (λ (n : ℕ). bit (eqb n 1)) s))
 
@@ -59,7 +59,7 @@ pub record Loadable (g : Geometry) (slots : Two (Option Superblock)) (j : List (
   pub selected : Slots g slots w s
   pub size : length j ≡ g.blocks
   pub held : JournalRange
-  pub holds : CyclicSlice g j (interval s.journalStart s.journalLen) ≡ whole held
+  pub holds : cyclic_slice g j (interval s.journalStart s.journalLen) ≡ whole held
   pub parses : format.parse_journal_range held ≡ some es
 
 -- a disk can be loaded as one thing only
@@ -84,7 +84,7 @@ loadable_one g slots j w w' s s' es es' z y = (
     same_s = sym z.selected.is ∙ (λ i. at (record { first = first_same i; second = second_same i }) (same_w i)) ∙ y.selected.is
 
     same_held : z.held ≡ y.held
-    same_held = whole_same z.held y.held (sym z.holds ∙ (λ i. CyclicSlice g j (interval (same_s i).journalStart (same_s i).journalLen)) ∙ y.holds)
+    same_held = whole_same z.held y.held (sym z.holds ∙ (λ i. cyclic_slice g j (interval (same_s i).journalStart (same_s i).journalLen)) ∙ y.holds)
 
 -- what a ledger keeps
 pub kept_loadable : (g : Geometry) (p : ℕ) (d : D.Variables) (k : Kept) (w : Bool) → OnDisk g format p d.superblocks d.req_write_journals d.journal k w
@@ -94,7 +94,7 @@ kept_loadable g p d k w z =
       selected = z.selected;
       size = z.size;
       held = codes format k.ranges;
-      holds = ap (λ (n : ℕ). CyclicSlice g d.journal (interval k.start n)) (sym (length_codes format k.ranges)) ∙ z.holds;
+      holds = ap (λ (n : ℕ). cyclic_slice g d.journal (interval k.start n)) (sym (length_codes format k.ranges)) ∙ z.holds;
       parses = parse_codes format k.ranges z.good;
     }
 
@@ -104,7 +104,7 @@ module _ (g : Geometry) (disk : List ℕ) (size_is : length disk ≡ 8192 + g.bl
 
   -- a run of blocks that the disk holds, as the image has it
   module _ (d : D.Variables) (pic : Pictures g disk d) (size : length d.journal ≡ g.blocks) (v : JournalInterval) (f : ValidJournalInterval g v)
-      (cs : JournalRange) (n : length cs ≡ v.len) (h : CyclicSlice g d.journal v ≡ whole cs) where
+      (cs : JournalRange) (n : length cs ≡ v.len) (h : cyclic_slice g d.journal v ≡ whole cs) where
     block_is : (i : ℕ) → i < v.len → get_or (blocks_in v.len (slice_bytes (journal_of g disk) v)) i [] ≡ get_or cs i []
     block_is i l =
         let in_ring : wrap g.blocks (v.start + i) < g.blocks = wrap_in g.blocks (v.start + i) (omega (arith, f.start_in, f.len_in, l)) in
@@ -114,7 +114,7 @@ module _ (g : Geometry) (disk : List ℕ) (size_is : length disk ≡ 8192 + g.bl
         ∙ pic.blocks (wrap g.blocks (v.start + i)) (get_or cs i [])
         (sym (slice_at g d.journal size v f i none l)
         ∙ ap (λ (xs : List (Option JournalBlock)). get_or xs i none) h
-        ∙ getD-map-in some cs i [] none (omega (arith, l, n)))
+        ∙ get_d_map_in some cs i [] none (omega (arith, l, n)))
 
     pub image_blocks : blocks_in v.len (slice_bytes (journal_of g disk) v) ≡ cs
     image_blocks =
@@ -137,7 +137,7 @@ module _ (g : Geometry) (disk : List ℕ) (size_is : length disk ≡ 8192 + g.bl
 
     -- the interval's blocks are those that the disk holds
     valid : ValidJournalInterval g (interval_of s)
-    valid = let f = slots_wf g d.superblocks w s slots in record { start_in = f.start_in; len_in = f.len_in }
+    valid = let f = slots_wf_is g d.superblocks w s slots in record { start_in = f.start_in; len_in = f.len_in }
 
     bytes_are : interval_bytes g disk s ≡ flat z.held
     bytes_are =
@@ -171,7 +171,7 @@ module _ (g : Geometry) (disk : List ℕ) (size_is : length disk ≡ 8192 + g.bl
         ∙ sym loadable_choice
 
     -- and the record by it
-    pub loadable_record : (l : Lent) (c : Choice) → c ≡ chosen g disk 0 → (r : M.ReadyVariables) → r.superblock ≡ s → r.which_superblock ≡ w → r.replay_journal ≡ es → RecordIs g disk c l r
+    pub loadable_record : (l : Lent) (c : Choice) → c ≡ chosen g disk 0 → (r : M.ReadyVariables) → r.superblock ≡ s → r.whichSuperblock ≡ w → r.replay_journal ≡ es → RecordIs g disk c l r
     loadable_record l c e r hs hw he = subst (λ (c : Choice). RecordIs g disk c l r) (sym (e ∙ loadable_choice)) by_choice
       where
         yes : Choice

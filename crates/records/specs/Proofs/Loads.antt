@@ -4,12 +4,12 @@ use Rattle.std.specs.Prelude.{ℕ, Bool, true, false, ◌≡◌, List, [], ◌�
 use Rattle.std.proofs.Math.Path.{refl}
 use Rattle.std.proofs.Common.{sym, ◌∙◌, ap, subst, subst₂}
 use Rattle.std.proofs.Math.Option.{Option, none, some}
-use Rattle.laws.specs.Choice.{ruin, false-true}
-use Rattle.laws.specs.Sets.{Two, Map, at, both, at_both, none-some, same_value}
+use Rattle.laws.specs.Choice.{ruin, false_true}
+use Rattle.laws.specs.Sets.{Two, Map, at, both, at_both, none_some, same_value}
 use Rattle.layout.specs.declared.Geometry.{Geometry}
 use Rattle.interval.specs.declared.JournalInterval.{JournalInterval}
 use Rattle.interval.specs.Interval.{interval}
-use Rattle.interval.specs.Journal.{JournalBlock, CyclicSlice}
+use Rattle.interval.specs.Journal.{JournalBlock, cyclic_slice}
 use Rattle.superblock.specs.declared.Superblock.{Superblock}
 use Rattle.superblock.specs.Laws.{WFSuperblock}
 use Rattle.codec.specs.Format.{format}
@@ -25,19 +25,19 @@ use Rattle.source.specs.Departures.{FinishLoadingOtherPhase⁺, AskAgain, Damage
 use Rattle.history.specs.Ledger as ledger
 use Rattle.history.specs.Ledger.{Call}
 use Rattle.history.specs.Statement.{Tied, tied_write, tied_written, unawaited_written, tied_log, tied_location, tied_committed, unawaited_committed, tied_page, tied_paged, tied_damaged, unawaited_paged, unawaited_damaged, tied_read, tied_superblock, tied_corrupt, unawaited_superblock, unawaited_corrupt, tied_finish_superblocks, tied_finish_other, tied_freeze, tied_receive, tied_add, tied_replay, tied_push, tied_pop, tied_no_op, tied_again, tied_land, tied_crash, Takes, Goes, Trace, loads, OnlyLoads}
-use Rattle.history.specs.Journal.Slots.{picked_is, Slots}
-use Rattle.history.specs.Simulation.Relation.{Told, Pieces, ReadsStand}
-use Rattle.history.specs.Simulation.Loading.{read_success, told_put, pieces_put}
-use Rattle.history.specs.Simulation.Steps.{reads_stand}
-use Rattle.history.specs.Whole.Reloaded.{loaded_whole}
+use Rattle.history.proofs.Journal.Slots.{picked_is, Slots}
+use Rattle.history.proofs.Simulation.Relation.{Told, Pieces, ReadsStand}
+use Rattle.history.proofs.Simulation.Loading.{read_success, told_put, pieces_put}
+use Rattle.history.proofs.Simulation.Steps.{reads_stand}
+use Rattle.history.proofs.Whole.Reloaded.{loaded_whole}
 use Rattle.records.specs.Pictures.{of_load, OnlyOfLoad}
 use Rattle.records.specs.Proofs.Loadable.{Loadable}
 
 -- what was read so far is what the disk says
 abbrev pub Seen : Geometry → M.Variables → D.Variables → Type 0
 Seen g (M.Variables.LoadingSuperblock s) d = Told s.superblocks d.superblocks
-Seen g (M.Variables.LoadingOther s) d = Slots g d.superblocks s.which_superblock s.superblock × Pieces g s.superblock s.journal_pieces d.journal
-Seen g (M.Variables.Ready r) d = Loadable g d.superblocks d.journal r.which_superblock r.superblock r.replay_journal
+Seen g (M.Variables.LoadingOther s) d = Slots g d.superblocks s.whichSuperblock s.superblock × Pieces g s.superblock s.journal_pieces d.journal
+Seen g (M.Variables.Ready r) d = Loadable g d.superblocks d.journal r.whichSuperblock r.superblock r.replay_journal
 
 module _ (g : Geometry) where
   by_next : {m m' : M.Variables} {d d' : D.Variables} → m' ≡ m → d' ≡ d → Seen g m d → Seen g m' d'
@@ -47,9 +47,9 @@ module _ (g : Geometry) where
   seen_requests : (m : M.Variables) (d d' : D.Variables) → d'.superblocks ≡ d.superblocks → d'.journal ≡ d.journal → Seen g m d → Seen g m d'
   seen_requests (M.Variables.LoadingSuperblock s) d d' a b z = subst (Told s.superblocks) (sym a) z
   seen_requests (M.Variables.LoadingOther s) d d' a b z =
-      (subst (λ (t : Two (Option Superblock)). Slots g t s.which_superblock s.superblock) (sym a) z.0, subst (Pieces g s.superblock s.journal_pieces) (sym b) z.1)
+      (subst (λ (t : Two (Option Superblock)). Slots g t s.whichSuperblock s.superblock) (sym a) z.0, subst (Pieces g s.superblock s.journal_pieces) (sym b) z.1)
   seen_requests (M.Variables.Ready r) d d' a b z =
-      subst₂ (λ (t : Two (Option Superblock)) (j : List (Option JournalBlock)). Loadable g t j r.which_superblock r.superblock r.replay_journal) (sym a) (sym b) z
+      subst₂ (λ (t : Two (Option Superblock)) (j : List (Option JournalBlock)). Loadable g t j r.whichSuperblock r.superblock r.replay_journal) (sym a) (sym b) z
 
   seen_read : (which : Bool) (m m' : M.Variables) (d : D.Variables) (dop : DiskOp) → Seen g m d → M.PageInSuperblockReq m m' dop which → Seen g m' d
   seen_read which (M.Variables.LoadingSuperblock s) m' d dop z h = by_next h.next refl z
@@ -77,7 +77,7 @@ module _ (g : Geometry) where
           picks = refl;
           is = sym (picked_is (record { first = h.superblock1; second = h.superblock2 }));
         },
-        λ piece jr v e. none-some (at_both none piece) e,
+        λ piece jr v e. none_some (at_both none piece) e,
       )
     where
       one : at d.superblocks false ≡ some h.superblock1
@@ -110,11 +110,11 @@ module _ (g : Geometry) where
       a : D.AckReadJournal g d d' h.id (some h.jr)
       a = subst (D.Next g d d') h.op hd
 
-      read : (v : JournalInterval) → journal_interval_of_superblock g which s.superblock ≡ some v → whole h.jr ≡ CyclicSlice g d.journal v
+      read : (v : JournalInterval) → journal_interval_of_superblock g which s.superblock ≡ some v → whole h.jr ≡ cyclic_slice g d.journal v
       read v e =
           ap whole (a.whole h.jr refl)
-          ∙ full_whole (CyclicSlice g d.journal a.ind) (a.readable h.jr refl).full
-          ∙ ap (CyclicSlice g d.journal) (same_value a.waiting (r which h.id v h.waiting e))
+          ∙ full_whole (cyclic_slice g d.journal a.ind) (a.readable h.jr refl).full
+          ∙ ap (cyclic_slice g d.journal) (same_value a.waiting (r which h.id v h.waiting e))
   seen_paged which (M.Variables.Ready s) m' d d' dop z r h hd = absurd h
 
   -- loading's end: the pieces are the interval's blocks, and they parse
@@ -128,8 +128,8 @@ module _ (g : Geometry) where
         size = n;
         held = loaded g s;
         holds =
-            (λ i. CyclicSlice g d.journal (interval (f.superblock_is i).journalStart (f.superblock_is i).journalLen))
-            ∙ sym (loaded_whole g s d.journal n f.start_in f.len_in z.1 f.front_in f.back_in_is);
+            (λ i. cyclic_slice g d.journal (interval (f.superblock_is i).journalStart (f.superblock_is i).journalLen))
+            ∙ sym (loaded_whole g s d.journal n f.start_in f.len_in z.1 f.front_in_is f.back_in_is);
         parses = f.parses;
       }
     where
@@ -174,13 +174,13 @@ module _ (g : Geometry) where
 
     loading_tied : (x : Call) (e : Event) → Tied x e → of_load x ≡ true → Allowed g format limits s t e → Loading d t
     unfolding of_load
-    loading_tied x e tied_write h a = false-true h
-    loading_tied x e tied_written h a = false-true h
-    loading_tied x e unawaited_written h a = false-true h
-    loading_tied x e tied_log h a = false-true h
-    loading_tied x e tied_location h a = false-true h
-    loading_tied x e tied_committed h a = false-true h
-    loading_tied x e unawaited_committed h a = false-true h
+    loading_tied x e tied_write h a = false_true h
+    loading_tied x e tied_written h a = false_true h
+    loading_tied x e unawaited_written h a = false_true h
+    loading_tied x e tied_log h a = false_true h
+    loading_tied x e tied_location h a = false_true h
+    loading_tied x e tied_committed h a = false_true h
+    loading_tied x e unawaited_committed h a = false_true h
     loading_tied x e (tied_page {which = which}) h a = goes_on _ a.step.disk.next refl refl (seen_page which s.machine t.machine s.disk _ here a.step.machine)
     loading_tied x e tied_paged h a =
         goes_on _ a.step.disk.next refl refl
@@ -197,16 +197,16 @@ module _ (g : Geometry) where
     loading_tied x e unawaited_corrupt h a = goes_on _ a.step.disk.next refl refl (by_next a.step.machine.source.next refl here)
     loading_tied x e tied_finish_superblocks h a = goes_on _ a.step.disk.next refl refl (seen_selected s.machine t.machine s.disk _ a.meets.joined.wf here a.step.machine)
     loading_tied x e tied_finish_other h a = goes_on _ a.step.disk.next refl refl (seen_ready s.machine t.machine s.disk _ a.meets.disk.shape.size here a.step.machine)
-    loading_tied x e tied_freeze h a = false-true h
-    loading_tied x e tied_receive h a = false-true h
-    loading_tied x e tied_add h a = false-true h
-    loading_tied x e tied_replay h a = false-true h
+    loading_tied x e tied_freeze h a = false_true h
+    loading_tied x e tied_receive h a = false_true h
+    loading_tied x e tied_add h a = false_true h
+    loading_tied x e tied_replay h a = false_true h
     loading_tied x e tied_push h a = goes_on _ a.step.disk.next refl refl (by_next a.step.machine.next refl (seen_sync s.machine s.disk _ here))
     loading_tied x e tied_pop h a = goes_on _ a.step.disk.next refl refl (by_next a.step.machine.next refl (seen_sync s.machine s.disk _ here))
     loading_tied x e tied_no_op h a = goes_on _ a.step.disk.next refl refl (by_next a.step.machine.source.next refl here)
     loading_tied x e (tied_again {which = which}) h a = goes_on _ a.step.disk.next refl refl (seen_again which s.machine t.machine s.disk _ here a.step.machine)
-    loading_tied x e tied_land h a = false-true h
-    loading_tied x e tied_crash h a = false-true h
+    loading_tied x e tied_land h a = false_true h
+    loading_tied x e tied_crash h a = false_true h
 
   loading_goes : (d : D.Variables) (s t : Y.Variables) (x : Call) (b : Bool) → Loading d s → (b ≡ true → of_load x ≡ true) → Goes (Takes g format limits) s x b t → Loading d t
   loading_goes d s t x true z f h = loading_tied d s t z x h.event h.tied (f refl) h.allowed
@@ -221,7 +221,7 @@ module _ (g : Geometry) where
   -- from a machine at Init
   pub any_load : (s t : Y.Variables) (xs : List Call) (bs : List Bool) (r : M.ReadyVariables) → s.machine ≡ M.Variables.LoadingSuperblock M.initial
       → OnlyOfLoad xs bs → Trace g format limits s xs bs t → t.machine ≡ M.Variables.Ready r
-      → Loadable g s.disk.superblocks s.disk.journal r.which_superblock r.superblock r.replay_journal
+      → Loadable g s.disk.superblocks s.disk.journal r.whichSuperblock r.superblock r.replay_journal
   any_load s t xs bs r e f h q =
       subst (λ (m : M.Variables). Seen g m s.disk) q
       (loading_run s.disk s t xs bs (record { superblocks_are = refl; journal_is = refl; seen = by_next e refl none_read }) f h).seen

@@ -3,10 +3,10 @@ use Rattle.std.specs.Prelude.{ℕ, ◌≤◌, Bool, true, false, ◌≡◌, refl
 use Rattle.std.proofs.Common.{sym, ◌∙◌, ap, arith}
 use Rattle.std.proofs.Math.Option.{none, some}
 use Rattle.std.proofs.Math.ListN.{get_or-eq_default}
-use Rattle.laws.specs.Choice.{ruin, split-le, by_eqb, cond-some, and_then_both}
+use Rattle.laws.specs.Choice.{ruin, split_le, by_eqb, cond_some, and_then_both}
 use Rattle.laws.specs.Cut.{lengths}
 use Rattle.laws.specs.Fold.{sum}
-use Rattle.laws.specs.Sets.{none-some}
+use Rattle.laws.specs.Sets.{none_some}
 use Rattle.layout.specs.declared.Geometry.{Geometry}
 use Rattle.interval.specs.Facts.{ValidJournalInterval}
 use Rattle.interval.specs.Journal.{full_range}
@@ -14,14 +14,14 @@ use Rattle.superblock.specs.declared.Superblock.{Superblock}
 use Rattle.superblock.specs.declared.MaybeSuperblock.{MaybeSuperblock}
 use Rattle.journal.specs.Memory.{is_one, full_marks}
 use Rattle.journal.specs.Asked.{journal_blocks, journal_marks, asked_marks, asked_readable}
-use Rattle.journal.specs.Cells.{block_at, cell_at, cells, length_cells, cell_at_is, full_marks}
+use Rattle.journal.specs.Cells.{block_at, cell_at, cells, length_cells, cell_at_is, full_marks_is}
 use Rattle.codec.specs.Codec.{JournalEntry}
 use Rattle.codec.specs.Ranges.{whole_full}
 use Rattle.source.specs.JournalCache as M
 use Rattle.source.specs.JournalSystem as Y
 use Rattle.history.specs.Statement.{Ran}
-use Rattle.history.specs.Journal.Slots.{bit, slots_wf}
-use Rattle.history.specs.Loads.Superblocks.{resting}
+use Rattle.history.proofs.Journal.Slots.{bit, slots_wf_is}
+use Rattle.history.proofs.Loads.Superblocks.{resting}
 use Rattle.sector.specs.Answer.{read_sector}
 use Rattle.image.specs.declared.Choice.{Choice}
 use Rattle.image.specs.declared.Recorded.TheVariants as recorded
@@ -51,11 +51,11 @@ store_pictured g disk s p =
       first = p.first;
       second = p.second;
       blocks = λ i b e.
-          split-le g.blocks i
-          (λ l. none-some (get_or-eq_default (cells g s.lent.blocks s.lent.marks) none (omega (arith, l, length_cells g.blocks s.lent.blocks s.lent.marks))) e)
+          split_le g.blocks i
+          (λ l. none_some (get_or-eq_default (cells g s.lent.blocks s.lent.marks) none (omega (arith, l, length_cells g.blocks s.lent.blocks s.lent.marks))) e)
           (λ l.
           let k : cell_at s.lent.blocks s.lent.marks i ≡ some b = sym (cell_at_is g.blocks s.lent.blocks s.lent.marks i l) ∙ e in
-          let q = cond-some (is_one (get_or s.lent.marks i 0)) (block_at s.lent.blocks i) b k in
+          let q = cond_some (is_one (get_or s.lent.marks i 0)) (block_at s.lent.blocks i) b k in
           p.blocks i l q.0 ∙ q.1);
     }
 
@@ -72,20 +72,20 @@ module _ (g : Geometry) (disk : List ℕ) (l : Lent) (s : State) (pic : StorePic
   )
     where
       valid : ValidJournalInterval g (interval_of v)
-      valid = let f = slots_wf g (state_seen g s).disk.superblocks w v z.selected in record { start_in = f.start_in; len_in = f.len_in }
+      valid = let f = slots_wf_is g (state_seen g s).disk.superblocks w v z.selected in record { start_in = f.start_in; len_in = f.len_in }
 
       full : full_marks s.lent.marks (interval_of v) ≡ true
       full =
-          sym (full_marks g (interval_of v) valid s.lent.blocks (journal_blocks g s.lent.blocks s.lent.marks h).size s.lent.marks (journal_marks g s.lent.blocks s.lent.marks h).size)
+          sym (full_marks_is g (interval_of v) valid s.lent.blocks (journal_blocks g s.lent.blocks s.lent.marks h).size s.lent.marks (journal_marks g s.lent.blocks s.lent.marks h).size)
           ∙ ap full_range z.holds
           ∙ whole_full z.held
 
-  pub asks_record : (r : M.ReadyVariables) → Loadable g (state_seen g s).disk.superblocks (state_seen g s).disk.journal r.which_superblock r.superblock r.replay_journal
+  pub asks_record : (r : M.ReadyVariables) → Loadable g (state_seen g s).disk.superblocks (state_seen g s).disk.journal r.whichSuperblock r.superblock r.replay_journal
       → (c : Choice) → Asks g disk l s c → RecordIs g disk c l r
   asks_record r z c a =
-      let k = asks_choice r.which_superblock r.superblock r.replay_journal z c a in
+      let k = asks_choice r.whichSuperblock r.superblock r.replay_journal z c a in
       loadable_record g disk (image_asked g (length disk) (length l.pieces) (length l.rbytes) (length l.rlens) k.0).disk_size (state_seen g s).disk (store_pictured g disk s pic)
-      r.which_superblock r.superblock r.replay_journal z l c k.1 r refl refl refl
+      r.whichSuperblock r.superblock r.replay_journal z l c k.1 r refl refl refl
 
 -- A load's end has the form, whatever it began with: something was taken in it
 
@@ -113,7 +113,7 @@ ready_record g disk c l t k f z =
       answer =
           z.answer
           ∙ ap (λ (w : ℕ). recorded.Held t.store.machine.ready.superblock w (length (replay_of t)) (sum (lengths (replay_of t))))
-          (slot_number t.store.machine.ready.which_superblock (work_form g (machine_lent t.lent) t.store.machine k f.machine).which_in);
+          (slot_number t.store.machine.ready.whichSuperblock (work_form g (machine_lent t.lent) t.store.machine k f.machine).which_in);
       bytes = z.bytes;
       lens = z.lens;
     }

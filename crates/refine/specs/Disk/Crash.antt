@@ -3,7 +3,7 @@
 use Rattle.std.specs.Prelude.{ℕ, ◌<◌, true, false, ◌≡◌, refl, List, length, get_or}
 use Rattle.std.proofs.Common.{sym, ◌∙◌, ap, subst, inl, ⊎_elim, arith}
 use Rattle.std.proofs.Math.Option.{Option, none}
-use Rattle.laws.specs.Choice.{not_so, split-bool, true-false, unless-done, unless-kept}
+use Rattle.laws.specs.Choice.{not_so, split_bool, true_false, unless_done, unless_kept}
 use Rattle.laws.specs.Maps.{Values}
 use Rattle.laws.specs.Sets.{both}
 use Rattle.layout.specs.declared.Geometry.{Geometry}
@@ -15,15 +15,15 @@ use Rattle.journal.specs.Asked.{journal_blocks, journal_marks, asked_journal}
 use Rattle.journal.specs.Cells.{cells, length_cells, cell_at_is}
 use Rattle.tables.specs.declared.IntervalTable.{IntervalTable}
 use Rattle.tables.specs.IntervalTable.{interval_rows, interval_map, SizedIntervals}
-use Rattle.tables.specs.Laws.IdTables.{ids_empty}
-use Rattle.tables.specs.Laws.IntervalTables.{intervals_empty, level_intervals}
-use Rattle.tables.specs.Laws.RowTables.{rows_place, rows_at}
+use Rattle.tables.proofs.Laws.IdTables.{ids_empty}
+use Rattle.tables.proofs.Laws.IntervalTables.{intervals_empty, level_intervals}
+use Rattle.tables.proofs.Laws.RowTables.{rows_place, rows_at}
 use Rattle.source.specs.JournalDisk as D
 use Rattle.source.specs.JournalDisk.{JournalUntouched}
 use Rattle.source.specs.Departures.{DiskCrash⁺}
 use Rattle.source.specs.Limits.{limits}
 use Rattle.source.specs.Within.{Crashed, DiskAllowed, Picture}
-use Rattle.source.specs.Laws.Unique.{disk_crash_one}
+use Rattle.source.proofs.Laws.Unique.{disk_crash_one}
 use Rattle.disk.specs.declared.Disk.{Disk}
 use Rattle.disk.specs.declared.DiskStepped.{DiskStepped}
 use Rattle.disk.specs.declared.DiskAnswer.TheVariants as answer
@@ -54,7 +54,7 @@ module _ (g : Geometry) (t : IntervalTable) (l : SizedIntervals t) (i : ℕ) whe
       let c : covered t i ≡ true =
       covered_in i t (interval 0 0) p.0 p.1 (omega (arith, p.2, l.ids_long, l.intervals_long)) (ap (λ (x : JournalInterval). in_row x i) p.4 ∙ row)
       in
-      true-false (sym c ∙ e)
+      true_false (sym c ∙ e)
 
 -- a block after the crash: the picture's, or as it was
 module _ (g : Geometry) (t : IntervalTable) (picture pictured blocks marks : List ℕ) (l : Lent g blocks marks) (p : Lent g picture pictured) (i : ℕ) (h : i < g.blocks) where
@@ -73,7 +73,7 @@ module _ (g : Geometry) (t : IntervalTable) (picture pictured blocks marks : Lis
 module _ (g : Geometry) (d : Disk) (picture pictured blocks marks : List ℕ) where
   -- the view of what a crash leaves
   abbrev pub crashed_view : D.Variables
-  crashed_view = disk_of g (crashed_blocks d.journal_writes picture blocks) (crashed_marks d.journal_writes pictured marks) (crashed_disk d)
+  crashed_view = disk_of g (crashed_blocks d.journalWrites picture blocks) (crashed_marks d.journalWrites pictured marks) (crashed_disk d)
 
   -- the source's clauses; and no other state meets them
   pub crash_clauses : (z : SizedDisk d) → Met g blocks marks d z → Lent g picture pictured → DiskCrash⁺ g (disk_of g blocks marks d) crashed_view (cells g picture pictured)
@@ -88,16 +88,16 @@ module _ (g : Geometry) (d : Disk) (picture pictured blocks marks : List ℕ) wh
               superblocks_kept = refl;
               journal_kept =
                   record {
-                    size = length_cells g.blocks (crashed_blocks d.journal_writes picture blocks) (crashed_marks d.journal_writes pictured marks) ∙ sym (length_cells g.blocks blocks marks);
+                    size = length_cells g.blocks (crashed_blocks d.journalWrites picture blocks) (crashed_marks d.journalWrites pictured marks) ∙ sym (length_cells g.blocks blocks marks);
                     kept = λ i l u.
-                        block_kept g d.journal_writes picture pictured blocks marks m.lent p i (in_ring i l)
-                        (not_so (covered d.journal_writes i) (λ c. covered_touched g d.journal_writes z.journal_writes i m.tables.journal_writes c u));
+                        block_kept g d.journalWrites picture pictured blocks marks m.lent p i (in_ring i l)
+                        (not_so (covered d.journalWrites i) (λ c. covered_touched g d.journalWrites z.journal_writes_is i m.tables.journal_writes_is c u));
                   };
             };
         from_picture = λ i l n.
-            split-bool (covered d.journal_writes i)
-            (λ c. block_taken g d.journal_writes picture pictured blocks marks m.lent p i (in_ring i l) c)
-            (λ c. absurd (n (free_untouched g d.journal_writes z.journal_writes i m.meets.shape.writes_contiguous c)));
+            split_bool (covered d.journalWrites i)
+            (λ c. block_taken g d.journalWrites picture pictured blocks marks m.lent p i (in_ring i l) c)
+            (λ c. absurd (n (free_untouched g d.journalWrites z.journal_writes_is i m.meets.shape.writes_contiguous c)));
       }
     where
       in_ring : (i : ℕ) → i < length (cells g blocks marks) → i < g.blocks
@@ -127,7 +127,7 @@ module _ (g : Geometry) (d : Disk) (picture pictured blocks marks : List ℕ) wh
   done_view e =
       let q : ℕ = ask_crash g d picture pictured blocks marks in
       λ i.
-      disk_of g (unless-done q blocks (crashed_blocks d.journal_writes picture blocks) e i) (unless-done q marks (crashed_marks d.journal_writes pictured marks) e i)
+      disk_of g (unless_done q blocks (crashed_blocks d.journalWrites picture blocks) e i) (unless_done q marks (crashed_marks d.journalWrites pictured marks) e i)
       (asked_done q (crashed_disk d) d e i).disk
 
   pub crash_sound : SizedDisk d → (crash g d picture pictured blocks marks).answer ≡ answer.Done
@@ -157,8 +157,8 @@ module _ (g : Geometry) (d : Disk) (picture pictured blocks marks : List ℕ) wh
       let q : ℕ = ask_crash g d picture pictured blocks marks in
       let h = refused_asked q (crashed_disk d) d n e in (
         refused_same q (crashed_disk d) d n e,
-        unless-kept q blocks (crashed_blocks d.journal_writes picture blocks) h,
-        unless-kept q marks (crashed_marks d.journal_writes pictured marks) h,
+        unless_kept q blocks (crashed_blocks d.journalWrites picture blocks) h,
+        unless_kept q marks (crashed_marks d.journalWrites pictured marks) h,
       )
 
 module _ (g : Geometry) (d : Disk) (blocks marks : List ℕ) where

@@ -9,7 +9,7 @@ use Rattle.std.proofs.lemmas.List.{length-map, length-replicate}
 use Rattle.laws.specs.Choice.{also_both}
 use Rattle.laws.specs.Fold.{every}
 use Rattle.laws.specs.Cut.{flat, lengths}
-use Rattle.laws.specs.Part.{getD-tab, getD-map-in}
+use Rattle.laws.specs.Part.{get_d_tab, get_d_map_in}
 use Rattle.layout.specs.declared.Geometry.{Geometry}
 use Rattle.layout.specs.Geometry.{ValidGeometry}
 use Rattle.interval.specs.Journal.{JournalBlock}
@@ -74,9 +74,9 @@ module _ (g : Geometry) (picture : List (Option JournalBlock)) (h : Picture g pi
   block_is : (i : ℕ) → i < g.blocks → block_at (picture_bytes picture) i ≡ bytes_in (get_or picture i none)
   unfolding blocks_in
   block_is i l =
-      sym (getD-tab g.blocks (block_at (picture_bytes picture)) i [] l)
+      sym (get_d_tab g.blocks (block_at (picture_bytes picture)) i [] l)
       ∙ ap (λ (bs : List JournalBlock). get_or bs i []) (blocks_flat g.blocks (map bytes_in picture) blocks_size)
-      ∙ getD-map-in bytes_in picture i none [] (omega (arith, l, h.size))
+      ∙ get_d_map_in bytes_in picture i none [] (omega (arith, l, h.size))
 
   cell_is : (x : Option JournalBlock) → cond (is_one (mark_in x)) (some (bytes_in x)) none ≡ x
   unfolding is_one
@@ -89,5 +89,5 @@ module _ (g : Geometry) (picture : List (Option JournalBlock)) (h : Picture g pi
       (λ i l.
       let k : i < g.blocks = omega (arith, l, length_cells g.blocks (picture_bytes picture) (picture_marks picture)) in
       cell_at_is g.blocks (picture_bytes picture) (picture_marks picture) i k
-      ∙ (λ j. cond (is_one (getD-map-in mark_in picture i none 0 (omega (arith, k, h.size)) j)) (some (block_is i k j)) none)
+      ∙ (λ j. cond (is_one (get_d_map_in mark_in picture i none 0 (omega (arith, k, h.size)) j)) (some (block_is i k j)) none)
       ∙ cell_is (get_or picture i none))

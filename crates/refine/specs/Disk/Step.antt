@@ -6,7 +6,7 @@ use Rattle.std.proofs.Math.Path.{sym, subst}
 use Rattle.std.proofs.Common.{◌∙◌, ap}
 use mathlib.Core.List.{List, []}
 use Rattle.std.proofs.Math.Option.{Option, none, some}
-use Rattle.laws.specs.Choice.{and_then_left, and_then_right, and_then_both, unless-done, unless-kept}
+use Rattle.laws.specs.Choice.{and_then_left, and_then_right, and_then_both, unless_done, unless_kept}
 use Rattle.laws.specs.Cut.{flat}
 use Rattle.laws.specs.Sets.{is_key}
 use Rattle.layout.specs.declared.Geometry.{Geometry}
@@ -26,7 +26,7 @@ use Rattle.source.specs.JournalDisk.{ReqWriteJournal, ReqReadSuperblockOp, ReqRe
 use Rattle.source.specs.Limits.{limits, DiskCounts}
 use Rattle.source.specs.Meets.{DiskMeets}
 use Rattle.source.specs.Within.{Operation, DiskAllowed, DiskWithin, WholeBlocks}
-use Rattle.source.specs.Laws.Unique.{disk_next_one}
+use Rattle.source.proofs.Laws.Unique.{disk_next_one}
 use Rattle.disk.specs.declared.Disk.{Disk}
 use Rattle.disk.specs.declared.DiskStepped.{DiskStepped}
 use Rattle.disk.specs.declared.DiskAnswer.TheVariants as answer
@@ -57,7 +57,7 @@ operation_of d (op.ReqReadJournal id v) new out = ReqReadJournalOp id v
 operation_of d (op.ReqWriteSuperblock id which superblock) new out = ReqWriteSuperblockOp id (bit_of which) (request_of superblock)
 operation_of d (op.ReqWriteJournal id1 id2 start count) new out = ReqWriteJournalOp id1 (id_in id2) (write_of (interval start count) new)
 operation_of d (op.RespReadSuperblock id which superblock) new out = RespReadSuperblockOp id (bit_of which) (read_in superblock)
-operation_of d (op.RespReadJournal id journal) new out = RespReadJournalOp id (blocks_read (is_whole journal) (held_interval d.journal_reads id) out)
+operation_of d (op.RespReadJournal id journal) new out = RespReadJournalOp id (blocks_read (is_whole journal) (held_interval d.journalReads id) out)
 operation_of d (op.RespWriteSuperblock id which) new out = RespWriteSuperblockOp id (bit_of which)
 operation_of d (op.RespWriteJournal id) new out = RespWriteJournalOp id
 operation_of d op.NoDiskOp new out = NoDiskOp
@@ -142,7 +142,7 @@ module _ (g : Geometry) (blocks marks out : List ℕ) (d : Disk) where
       SuperblockReads.clauses_read_as g d (which_of which) id blocks marks (which_in which) superblock s'
       (asks_by which (λ (x : Bool). D.AckReadSuperblock (disk_of g blocks marks d) s' id x superblock) a)
   clauses_operation z t l m s' (RespReadJournalOp id journal) a b w =
-      ap (λ (x : Bool). ask_ack_read_journal d.journal_reads id x marks) (whole_there journal) ∙ JournalReads.clauses_read g d id blocks marks out z l m journal s' a
+      ap (λ (x : Bool). ask_ack_read_journal d.journalReads id x marks) (whole_there journal) ∙ JournalReads.clauses_read g d id blocks marks out z l m journal s' a
   clauses_operation z t l m s' (RespWriteSuperblockOp id which) a b w =
       SuperblockWrites.clauses_ack_write g d (which_of which) blocks marks id (which_in which) s' (asks_by which (D.AckWriteSuperblock (disk_of g blocks marks d) s' id) a)
   clauses_operation z t l m s' (RespWriteJournalOp id) a b w = JournalWrites.clauses_ack_write g d id blocks marks z s' a
@@ -158,7 +158,7 @@ module _ (g : Geometry) (blocks marks out : List ℕ) (d : Disk) where
       λ i. ReqWriteJournalOp id1 (id_there id2 i) (record { start = req.start; journal = blocks_flat (length req.journal) req.journal b i })
   said z l m h s' (RespReadSuperblockOp id which superblock) a b = λ i. RespReadSuperblockOp id (bit_which which i) (read_there superblock i)
   said z l m h s' (RespReadJournalOp id journal) a b =
-      ap (λ (x : Bool). RespReadJournalOp id (blocks_read x (held_interval d.journal_reads id) (read_out x (held_interval d.journal_reads id) blocks out))) (whole_there journal)
+      ap (λ (x : Bool). RespReadJournalOp id (blocks_read x (held_interval d.journalReads id) (read_out x (held_interval d.journalReads id) blocks out))) (whole_there journal)
       ∙ ap (RespReadJournalOp id) (JournalReads.content_read g d id blocks marks out z l m journal s' a h)
   said z l m h s' (RespWriteSuperblockOp id which) a b = ap (RespWriteSuperblockOp id) (bit_which which)
   said z l m h s' (RespWriteJournalOp id) a b = refl
@@ -174,7 +174,7 @@ module _ (g : Geometry) (blocks marks out : List ℕ) (d : Disk) where
         ≡ disk_of g (operation_blocks o new blocks) (operation_marks o marks) (operation_next g d o)
     unfolding q
     stepped e =
-        λ i. disk_of g (unless-done q blocks (operation_blocks o new blocks) e i) (unless-done q marks (operation_marks o marks) e i) (asked_done q (operation_next g d o) d e i).disk
+        λ i. disk_of g (unless_done q blocks (operation_blocks o new blocks) e i) (unless_done q marks (operation_marks o marks) e i) (asked_done q (operation_next g d o) d e i).disk
 
     pub step_sound : SizedDisk d → (step g d o new blocks marks out).answer ≡ answer.Done
         → DiskAllowed g limits (disk_of g blocks marks d)
@@ -193,7 +193,7 @@ module _ (g : Geometry) (blocks marks out : List ℕ) (d : Disk) where
           meets = m.meets;
           step =
               subst (λ (x : D.Variables × List ℕ). D.Next g (disk_of g blocks marks d) x.0 (operation_of d o new x.1))
-              (λ i. (sym (stepped e0) i, sym (unless-done q out (operation_out d o blocks out) e0) i)) c;
+              (λ i. (sym (stepped e0) i, sym (unless_done q out (operation_out d o blocks out) e0) i)) c;
         }
 
     pub step_refused : (n : ℕ) → (step g d o new blocks marks out).answer ≡ answer.Refused n
@@ -203,9 +203,9 @@ module _ (g : Geometry) (blocks marks out : List ℕ) (d : Disk) where
     step_refused n e =
         let h = refused_asked q (operation_next g d o) d n e in (
           refused_same q (operation_next g d o) d n e,
-          unless-kept q blocks (operation_blocks o new blocks) h,
-          unless-kept q marks (operation_marks o marks) h,
-          unless-kept q out (operation_out d o blocks out) h,
+          unless_kept q blocks (operation_blocks o new blocks) h,
+          unless_kept q marks (operation_marks o marks) h,
+          unless_kept q out (operation_out d o blocks out) h,
         )
 
   pub step_complete : SizedDisk d → DiskTables d → Lent g blocks marks → length out ≡ g.blocks * 4096 → (o : D.DiskOp) (s' : D.Variables)
@@ -226,5 +226,5 @@ module _ (g : Geometry) (blocks marks out : List ℕ) (d : Disk) where
         stepped (call_of o) (new_of o) e0
             ∙ disk_next_one g (disk_of g blocks marks d) next s' o
             (subst (D.Next g (disk_of g blocks marks d) next) p (operation_clauses z m h (call_of o) (new_of o) e)) a.step,
-        ap (operation_of d (call_of o) (new_of o)) (unless-done (ask_step g d (call_of o) (new_of o) blocks marks out) out (operation_out d (call_of o) blocks out) e0) ∙ p,
+        ap (operation_of d (call_of o) (new_of o)) (unless_done (ask_step g d (call_of o) (new_of o) blocks marks out) out (operation_out d (call_of o) blocks out) e0) ∙ p,
       )

@@ -3,7 +3,7 @@ use Rattle.std.specs.Prelude.{ℕ, ◌≤◌, false, ◌≡◌, refl, List}
 use Rattle.std.proofs.Common.{sym, ◌∙◌, ap}
 use Rattle.std.proofs.Math.Option.{Option, none, some}
 use Rattle.laws.specs.Choice.{and_then}
-use Rattle.laws.specs.Sets.{at, put, each_of, at_each, each_put, none-some, same_value}
+use Rattle.laws.specs.Sets.{at, put, each_of, at_each, each_put, none_some, same_value}
 use Rattle.layout.specs.declared.Geometry.{Geometry}
 use Rattle.superblock.specs.declared.Superblock.{Superblock}
 use Rattle.superblock.specs.declared.MaybeSuperblock.{MaybeSuperblock}
@@ -27,13 +27,13 @@ use Rattle.requests.specs.Landing.{in_flight, ask_land, landing_on}
 use Rattle.disk.specs.Next.{land_next}
 use Rattle.disk.specs.Whole.{recv_write_superblock, ack_write_superblock, land}
 use Rattle.disk.specs.Laws.Answers.{refused_same}
-use Rattle.requests.specs.Laws.Pairs.{bit_of, slot_pair, write_pair, slot_put, write_at, write_put}
+use Rattle.requests.specs.Laws.Pairs.{bit_of, slot_pair, write_pair, slot_put, write_at_is, write_put}
 use Rattle.requests.specs.Laws.Receive.{recv_write_superblock_asked, asks_recv_write_superblock, other_write, write_other, no_write}
-use Rattle.disk.specs.Laws.Next.{recv_write_superblock_next}
-use Rattle.requests.specs.Laws.Acknowledge.{ack_write_superblock_asked, asks_ack_write_superblock, is_write, write_is, landed_holds, holds_landed}
-use Rattle.disk.specs.Laws.Next.{ack_write_superblock_next}
+use Rattle.disk.specs.Laws.Next.{recv_write_superblock_next_is}
+use Rattle.requests.specs.Laws.Acknowledge.{ack_write_superblock_asked, asks_ack_write_superblock, is_write_is, write_is, landed_holds, holds_landed}
+use Rattle.disk.specs.Laws.Next.{ack_write_superblock_next_is}
 use Rattle.requests.specs.Laws.Landing.{land_asked, asks_land, flight_write, write_flight, landing_holds}
-use Rattle.disk.specs.Laws.Next.{land_next}
+use Rattle.disk.specs.Laws.Next.{land_next_is}
 use Rattle.refine.specs.Disk.View.{superblock_in, write_in, disk_of, SizedDisk, DiskTables, Lent}
 use Rattle.refine.specs.Disk.Calls.{sound_by, complete_by}
 use Rattle.refine.specs.Disk.SuperblockReads.{slot_view, holds_of}
@@ -45,17 +45,17 @@ request_of s = record { superblock = s }
 -- a write under another id
 other_in : (x : SuperblockWrite) (id : ℕ) → is_write x id ≡ false → (w : ReqWriteSuperblockId) → write_in x ≡ some w → w.id ≡ id → ⊥
 other_in (write.Writing k s) id e w p q = other_write k id s e (ap (λ (y : ReqWriteSuperblockId). y.id) (same_value refl p) ∙ q)
-other_in write.NoWrite id e w p q = none-some refl p
+other_in write.NoWrite id e w p q = none_some refl p
 
 in_other : (x : SuperblockWrite) (id : ℕ) → ((w : ReqWriteSuperblockId) → write_in x ≡ some w → w.id ≡ id → ⊥) → is_write x id ≡ false
 in_other (write.Writing k s) id f = write_other k id s (λ q. f (record { id = k; req = request_of s }) refl q)
 in_other write.NoWrite id f = no_write id
 
 -- the write that the source has
-write_of : (x : SuperblockWrite) (w : ReqWriteSuperblockId) → write_in x ≡ some w → x ≡ write.Writing w.id w.req.superblock
-write_of (write.Writing k s) w p =
+write_of_is : (x : SuperblockWrite) (w : ReqWriteSuperblockId) → write_in x ≡ some w → x ≡ write.Writing w.id w.req.superblock
+write_of_is (write.Writing k s) w p =
     λ i. write.Writing (same_value {a = record { id = k; req = request_of s }} refl p i).id (same_value {a = record { id = k; req = request_of s }} refl p i).req.superblock
-write_of write.NoWrite w p = none-some refl p
+write_of_is write.NoWrite w p = none_some refl p
 
 -- the pairs with another write, or another superblock, in its place
 writes_placed : (w : SuperblockWrites) (which : ℕ) (x : SuperblockWrite) (o : Option ReqWriteSuperblockId) → write_in x ≡ o
@@ -74,7 +74,7 @@ slots_placed s which x o e =
 
 module _ (g : Geometry) (d : Disk) (which : ℕ) (blocks marks : List ℕ) where
   write_view : write_in (write_at d.superblockWrites which) ≡ at (disk_of g blocks marks d).req_write_superblocks (bit_of which)
-  write_view = ap write_in (write_at which d.superblockWrites) ∙ sym (at_each write_in (write_pair d.superblockWrites) (bit_of which))
+  write_view = ap write_in (write_at_is which d.superblockWrites) ∙ sym (at_each write_in (write_pair d.superblockWrites) (bit_of which))
 
   -- RecvWriteSuperblock
 
@@ -82,7 +82,7 @@ module _ (g : Geometry) (d : Disk) (which : ℕ) (blocks marks : List ℕ) where
     received : disk_of g blocks marks (recv_write_superblock_next d which id superblock)
         ≡ D.to_req_write_superblocks (put (disk_of g blocks marks d).req_write_superblocks (bit_of which) (some (record { id = id; req = request_of superblock }))) (disk_of g blocks marks d)
     received =
-        ap (disk_of g blocks marks) (recv_write_superblock_next d which id superblock)
+        ap (disk_of g blocks marks) (recv_write_superblock_next_is d which id superblock)
         ∙ (λ i.
         D.to_req_write_superblocks (writes_placed d.superblockWrites which (write.Writing id superblock) (some (record { id = id; req = request_of superblock })) refl i)
         (disk_of g blocks marks d))
@@ -128,14 +128,14 @@ module _ (g : Geometry) (d : Disk) (which : ℕ) (blocks marks : List ℕ) where
   lands id s e =
       let x : MaybeSuperblock = landing_on (slot_at d.slots which) (write_at d.superblockWrites which) in
       let h : superblock_in x ≡ some s = ap superblock_in (ap (landing_on (slot_at d.slots which)) e ∙ landing_holds (slot_at d.slots which) id s) in
-      ap (disk_of g blocks marks) (land_next d which)
+      ap (disk_of g blocks marks) (land_next_is d which)
       ∙ (λ i. D.to_superblocks (slots_placed d.slots which x (some s) h i) (disk_of g blocks marks d))
 
   -- the source's clauses, of a yes
   pub land_clauses : ask_land d.superblockWrites which ≡ 0 → D.ProcessWriteSuperblock (disk_of g blocks marks d) (disk_of g blocks marks (land_next d which)) (bit_of which)
   land_clauses e =
       let a = land_asked d.superblockWrites which e in
-      let k = flight_write (write_at d.superblockWrites which) a.in_flight in
+      let k = flight_write (write_at d.superblockWrites which) a.in_flight_is in
       record {
         write = record { id = k.0; req = request_of k.1 };
         waiting = sym write_view ∙ ap write_in k.2;
@@ -152,8 +152,8 @@ module _ (g : Geometry) (d : Disk) (which : ℕ) (blocks marks : List ℕ) where
       → (ask_land d.superblockWrites which ≡ 0) × (disk_of g blocks marks (land_next d which) ≡ s')
   clauses_land h s' a =
       let w : ReqWriteSuperblockId = a.write in
-      let k = write_of (write_at d.superblockWrites which) w (write_view ∙ a.waiting) in (
-        asks_land d.superblockWrites which (record { which_in = h; in_flight = ap in_flight k ∙ write_flight w.id w.req.superblock }),
+      let k = write_of_is (write_at d.superblockWrites which) w (write_view ∙ a.waiting) in (
+        asks_land d.superblockWrites which (record { which_in = h; in_flight_is = ap in_flight k ∙ write_flight w.id w.req.superblock }),
         lands w.id w.req.superblock k ∙ sym a.next,
       )
 
@@ -173,7 +173,7 @@ module _ (g : Geometry) (d : Disk) (which : ℕ) (blocks marks : List ℕ) where
     answered_write : disk_of g blocks marks (ack_write_superblock_next d which)
         ≡ D.to_req_write_superblocks (put (disk_of g blocks marks d).req_write_superblocks (bit_of which) none) (disk_of g blocks marks d)
     answered_write =
-        ap (disk_of g blocks marks) (ack_write_superblock_next d which)
+        ap (disk_of g blocks marks) (ack_write_superblock_next_is d which)
         ∙ (λ i. D.to_req_write_superblocks (writes_placed d.superblockWrites which write.NoWrite none refl i) (disk_of g blocks marks d))
 
     -- the source's clauses, of a yes, and back
@@ -181,7 +181,7 @@ module _ (g : Geometry) (d : Disk) (which : ℕ) (blocks marks : List ℕ) where
         → D.AckWriteSuperblock (disk_of g blocks marks d) (disk_of g blocks marks (ack_write_superblock_next d which)) id (bit_of which)
     ack_write_clauses e =
         let a = ack_write_superblock_asked d.slots d.superblockWrites which id e in
-        let k = is_write (write_at d.superblockWrites which) id a.id_is in
+        let k = is_write_is (write_at d.superblockWrites which) id a.id_is in
         let s = landed_holds (slot_at d.slots which) id k.0 (ap (landed (slot_at d.slots which)) (sym k.1) ∙ a.is_landed) in
         record {
           write = record { id = id; req = request_of k.0 };
@@ -196,7 +196,7 @@ module _ (g : Geometry) (d : Disk) (which : ℕ) (blocks marks : List ℕ) where
     clauses_ack_write h s' a =
         let w : ReqWriteSuperblockId = a.write in
         let k : write_at d.superblockWrites which ≡ write.Writing id w.req.superblock =
-        write_of (write_at d.superblockWrites which) w (write_view ∙ a.waiting) ∙ ap (λ (n : ℕ). write.Writing n w.req.superblock) (sym a.id_is)
+        write_of_is (write_at d.superblockWrites which) w (write_view ∙ a.waiting) ∙ ap (λ (n : ℕ). write.Writing n w.req.superblock) (sym a.id_is)
         in
         let s = holds_of g d which id blocks marks w.req.superblock a.landed in
         asks_ack_write_superblock d.slots d.superblockWrites which id

@@ -30,20 +30,20 @@ write_in write.NoWrite = none
 abbrev pub disk_of : Geometry → List ℕ → List ℕ → Disk → D.Variables
 disk_of g blocks marks d =
     record {
-      req_read_superblocks = each_of id_set (read_pair d.superblock_reads);
-      req_read_journals = interval_map d.journal_reads;
+      req_read_superblocks = each_of id_set (read_pair d.superblockReads);
+      req_read_journals = interval_map d.journalReads;
       req_write_superblocks = each_of write_in (write_pair d.superblockWrites);
-      req_write_journals = interval_map d.journal_writes;
+      req_write_journals = interval_map d.journalWrites;
       superblocks = each_of superblock_in (slot_pair d.slots);
       journal = cells g blocks marks;
     }
 
 -- what the code's types promise: the length of each array
 pub record SizedDisk (d : Disk) : Type 0 where
-  pub reads1 : SizedIds d.superblock_reads.first
-  pub reads2 : SizedIds d.superblock_reads.second
-  pub journal_reads : SizedIntervals d.journal_reads
-  pub journal_writes : SizedIntervals d.journal_writes
+  pub reads1 : SizedIds d.superblockReads.first
+  pub reads2 : SizedIds d.superblockReads.second
+  pub journal_reads_is : SizedIntervals d.journalReads
+  pub journal_writes_is : SizedIntervals d.journalWrites
 
 -- what a table adds to its set: the count lies within the array, and the ids in use differ
 pub record Table (count : ℕ) (ids : List ℕ) : Type 0 where
@@ -51,10 +51,10 @@ pub record Table (count : ℕ) (ids : List ℕ) : Type 0 where
   pub differ : Distinct (take count ids)
 
 pub record DiskTables (d : Disk) : Type 0 where
-  pub reads1 : Table d.superblock_reads.first.count d.superblock_reads.first.ids
-  pub reads2 : Table d.superblock_reads.second.count d.superblock_reads.second.ids
-  pub journal_reads : Table d.journal_reads.count d.journal_reads.ids
-  pub journal_writes : Table d.journal_writes.count d.journal_writes.ids
+  pub reads1 : Table d.superblockReads.first.count d.superblockReads.first.ids
+  pub reads2 : Table d.superblockReads.second.count d.superblockReads.second.ids
+  pub journal_reads_is : Table d.journalReads.count d.journalReads.ids
+  pub journal_writes_is : Table d.journalWrites.count d.journalWrites.ids
 
 -- what lent memory adds: N blocks of 4,096 bytes, N marks of 0 or 1, of a valid geometry
 pub record Lent (g : Geometry) (blocks marks : List ℕ) : Type 0 where

@@ -8,7 +8,7 @@ use Rattle.laws.specs.Splice.{splice}
 use Rattle.laws.specs.Sets.{Map, at, put}
 use Rattle.layout.specs.declared.Geometry.{Geometry}
 use Rattle.interval.specs.declared.JournalInterval.{JournalInterval}
-use Rattle.interval.specs.Laws.{len_of}
+use Rattle.interval.proofs.Laws.{len_of}
 use Rattle.superblock.specs.declared.JournalRead.{JournalRead}
 use Rattle.superblock.specs.declared.JournalRead.TheVariants as read
 use Rattle.superblock.specs.Laws.{WFSuperblock}
@@ -41,15 +41,15 @@ module _ (g : Geometry) (pieces : List ℕ) (s : LoadingOther) (y : Map SyncReqS
 
   -- the view with the front piece in, and with the back piece in
   module _ (wf : WFSuperblock g s.superblock) (size : length pieces ≡ g.blocks * 4096) (bytes : List ℕ) where
-    front_in : length bytes ≡ fronts * 4096
+    front_in_is : length bytes ≡ fronts * 4096
         → loading_other_of g (splice pieces 0 bytes) (to_pieces s piece.In s.back) y
-        ≡ M.to_journal_reads (put seen.journal_reads false none) (M.to_journal_pieces (put seen.journal_pieces false (some (blocks_in fronts bytes))) seen)
-    front_in e =
+        ≡ M.to_journal_reads (put seen.journalReads false none) (M.to_journal_pieces (put seen.journal_pieces false (some (blocks_in fronts bytes))) seen)
+    front_in_is e =
         λ i.
         record {
           superblock = s.superblock;
-          which_superblock = is_second s.which_superblock;
-          journal_reads = two none (awaited_read s.back);
+          whichSuperblock = is_second s.whichSuperblock;
+          journalReads = two none (awaited_read s.back);
           journal_pieces = two (some (blocks_here pieces 0 fronts bytes (omega arith) e i)) (loaded_piece s.back (behind i));
           sync_reqs = y;
         }
@@ -63,13 +63,13 @@ module _ (g : Geometry) (pieces : List ℕ) (s : LoadingOther) (y : Map SyncReqS
 
     back_in_is : length bytes ≡ backs * 4096
         → loading_other_of g (splice pieces (fronts * 4096) bytes) (to_pieces s s.front piece.In) y
-        ≡ M.to_journal_reads (put seen.journal_reads true none) (M.to_journal_pieces (put seen.journal_pieces true (some (blocks_in backs bytes))) seen)
+        ≡ M.to_journal_reads (put seen.journalReads true none) (M.to_journal_pieces (put seen.journal_pieces true (some (blocks_in backs bytes))) seen)
     back_in_is e =
         λ i.
         record {
           superblock = s.superblock;
-          which_superblock = is_second s.which_superblock;
-          journal_reads = two (awaited_read s.front) none;
+          whichSuperblock = is_second s.whichSuperblock;
+          journalReads = two (awaited_read s.front) none;
           journal_pieces =
               two (loaded_piece s.front (blocks_before pieces fronts backs bytes (front_room g pieces s.superblock wf size) e i))
               (some (blocks_here pieces fronts backs bytes (front_room g pieces s.superblock wf size) e i));
@@ -78,7 +78,7 @@ module _ (g : Geometry) (pieces : List ℕ) (s : LoadingOther) (y : Map SyncReqS
 
   module _ (id : ReqId) where
     abbrev waits : Bool → Type 0
-    waits which = at seen.journal_reads which ≡ some id
+    waits which = at seen.journalReads which ≡ some id
 
     -- where the awaited piece lies, and who awaits the id
     waits_front : waits false → s.front ≡ piece.Reading id
@@ -115,30 +115,30 @@ module _ (g : Geometry) (pieces : List ℕ) (s : LoadingOther) (y : Map SyncReqS
 
       whole_next : length pieces ≡ g.blocks * 4096 → (bytes : List ℕ) → length bytes ≡ (place_of g s id).len * 4096 → (which : Bool) → waits which
           → loading_other_of g (splice pieces ((place_of g s id).place * 4096) bytes) (page_in_journal_resp_next s id read.Whole) y
-          ≡ M.to_journal_reads (put seen.journal_reads which none)
+          ≡ M.to_journal_reads (put seen.journalReads which none)
           (M.to_journal_pieces (put seen.journal_pieces which (some (blocks_in (place_of g s id).len bytes))) seen)
       whole_next size bytes l false h =
           let p = front_place s id (waits_front h) g in
           (λ i. loading_other_of g (splice pieces ((p i).place * 4096) bytes) (front_next s id (waits_front h) read.Whole i) y)
-          ∙ front_in ok.superblock_wf size bytes (l ∙ ap (λ (x : Paged). x.len * 4096) p)
-          ∙ (λ i. M.to_journal_reads (put seen.journal_reads false none) (M.to_journal_pieces (put seen.journal_pieces false (some (blocks_in (sym p i).len bytes))) seen))
+          ∙ front_in_is ok.superblock_wf size bytes (l ∙ ap (λ (x : Paged). x.len * 4096) p)
+          ∙ (λ i. M.to_journal_reads (put seen.journalReads false none) (M.to_journal_pieces (put seen.journal_pieces false (some (blocks_in (sym p i).len bytes))) seen))
       whole_next size bytes l true h =
           let p = back_place s id (not_front h) (waits_back h) g in
           (λ i. loading_other_of g (splice pieces ((p i).place * 4096) bytes) (back_next s id (not_front h) (waits_back h) read.Whole i) y)
           ∙ back_in_is ok.superblock_wf size bytes (l ∙ ap (λ (x : Paged). x.len * 4096) p)
-          ∙ (λ i. M.to_journal_reads (put seen.journal_reads true none) (M.to_journal_pieces (put seen.journal_pieces true (some (blocks_in (sym p i).len bytes))) seen))
+          ∙ (λ i. M.to_journal_reads (put seen.journalReads true none) (M.to_journal_pieces (put seen.journal_pieces true (some (blocks_in (sym p i).len bytes))) seen))
 
       damaged_next : (which : Bool) → waits which
-          → loading_other_of g pieces (page_in_journal_resp_next s id read.Damaged) y ≡ M.to_journal_reads (put seen.journal_reads which none) seen
+          → loading_other_of g pieces (page_in_journal_resp_next s id read.Damaged) y ≡ M.to_journal_reads (put seen.journalReads which none) seen
       damaged_next false h =
           ap (λ (x : LoadingOther). loading_other_of g pieces x y) (front_next s id (waits_front h) read.Damaged)
           ∙ (λ i.
-          M.to_journal_reads (put seen.journal_reads false none)
+          M.to_journal_reads (put seen.journalReads false none)
           (M.to_journal_pieces (two (ap (λ (p : Piece). loaded_piece p (front_in g pieces s.superblock)) (sym (waits_front h)) i) seen.journal_pieces.second) seen))
       damaged_next true h =
           ap (λ (x : LoadingOther). loading_other_of g pieces x y) (back_next s id (not_front h) (waits_back h) read.Damaged)
           ∙ (λ i.
-          M.to_journal_reads (put seen.journal_reads true none)
+          M.to_journal_reads (put seen.journalReads true none)
           (M.to_journal_pieces (two seen.journal_pieces.first (ap (λ (p : Piece). loaded_piece p (back_in g pieces s.superblock)) (sym (waits_back h)) i)) seen))
 
     nobody_waits : ((which : Bool) → waits which → ⊥) → (r : JournalRead) → ((place_of g s id).len ≡ 0) × (page_in_journal_resp_next s id r ≡ s)
@@ -179,7 +179,7 @@ module _ (g : Geometry) (pieces : List ℕ) (s : LoadingOther) (y : Map SyncReqS
       h.1.next
           ∙ (λ i.
           Variables.LoadingOther
-          (M.to_journal_reads (put seen.journal_reads h.0 none)
+          (M.to_journal_reads (put seen.journalReads h.0 none)
           (M.to_journal_pieces (put seen.journal_pieces h.0 (some ((same_range h.1.id h.1.jr h.1.op ∙ sym (sized_blocks (place_of g s id).len jr sized)) i))) seen)))
           ∙ sym (ap Variables.LoadingOther (whole_next ok size (flat jr) (sized_flat (place_of g s id).len jr sized) h.0 waiting)),
     )
@@ -230,7 +230,7 @@ module _ (g : Geometry) (pieces : List ℕ) (s : LoadingOther) (y : Map SyncReqS
         record {
           source =
               record {
-                op = M.NoOpOp.journal_read id journal refl;
+                op = M.NoOpOp.journal_read_is id journal refl;
                 next = ap (λ (x : LoadingOther). other_seen g pieces x y) (nobody_waits nobody_does r).1;
               };
           unawaited = λ w. nobody_does w.0 w.1;

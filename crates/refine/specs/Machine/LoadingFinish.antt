@@ -9,7 +9,7 @@ use Rattle.laws.specs.Sets.{Map, at}
 use Rattle.layout.specs.declared.Geometry.{Geometry}
 use Rattle.layout.specs.Geometry.{num_journal_blocks}
 use Rattle.interval.specs.declared.JournalInterval.{JournalInterval}
-use Rattle.interval.specs.Laws.{len_of, parts_none, parts_straight, parts_wrapped, parts-cases}
+use Rattle.interval.proofs.Laws.{len_of, parts_none, parts_straight, parts_wrapped, parts_cases}
 use Rattle.superblock.specs.Superblock.{journal_front_interval_of_superblock, journal_back_interval_of_superblock}
 use Rattle.codec.specs.Codec.{JournalRange, Codec}
 use Rattle.source.specs.JournalDisk.{DiskOp}
@@ -26,7 +26,7 @@ use Rattle.refine.specs.Machine.LoadedBlocks.{flat_blocks, blocks_append}
 pub record LoadedClauses (g : Geometry) (s : LoadingOtherVariables) (range : JournalRange) : Type 0 where
   pub start_in : s.superblock.journalStart < num_journal_blocks g
   pub len_in : s.superblock.journalLen ≤ num_journal_blocks g
-  pub front_in : (v : JournalInterval) → journal_front_interval_of_superblock g s.superblock ≡ some v → (jr : JournalRange) × (at s.journal_pieces false ≡ some jr)
+  pub front_in_is : (v : JournalInterval) → journal_front_interval_of_superblock g s.superblock ≡ some v → (jr : JournalRange) × (at s.journal_pieces false ≡ some jr)
   pub back_in_is : (v : JournalInterval) → journal_back_interval_of_superblock g s.superblock ≡ some v → (jr : JournalRange) × (at s.journal_pieces true ≡ some jr)
   pub loaded_is : loaded g s ≡ range
 
@@ -42,7 +42,7 @@ module _ (g : Geometry) (pieces : List ℕ) (s : LoadingOther) (y : Map SyncReqS
     ins = finish_loading_other_phase_asked g s e
 
     front_got : There (journal_front_interval_of_superblock g s.superblock) → get_or (loaded_piece s.front (front_in g pieces s.superblock)) [] ≡ front_in g pieces s.superblock
-    front_got t = ap (λ (p : Piece). get_or (loaded_piece p (front_in g pieces s.superblock)) []) (ins.front_in t)
+    front_got t = ap (λ (p : Piece). get_or (loaded_piece p (front_in g pieces s.superblock)) []) (ins.front_in_is t)
 
     back_got : There (journal_back_interval_of_superblock g s.superblock) → get_or (loaded_piece s.back (back_in g pieces s.superblock)) [] ≡ back_in g pieces s.superblock
     back_got t = ap (λ (p : Piece). get_or (loaded_piece p (back_in g pieces s.superblock)) []) (ins.back_in_is t)
@@ -53,7 +53,7 @@ module _ (g : Geometry) (pieces : List ℕ) (s : LoadingOther) (y : Map SyncReqS
     pub finish_loading_other_phase_loads : loaded g (loading_other_of g pieces s y) ≡ blocks_in (loaded_blocks s) pieces
     unfolding cut
     finish_loading_other_phase_loads =
-        parts-cases g s.superblock.journalStart s.superblock.journalLen
+        parts_cases g s.superblock.journalStart s.superblock.journalLen
         (λ h.
         let p = parts_none g s.superblock.journalStart s.superblock.journalLen h in
         (λ i. range_by (p.back_is i) (p.front_is i)) ∙ ap (λ (n : ℕ). blocks_in n pieces) (sym h))
@@ -78,7 +78,7 @@ module _ (g : Geometry) (pieces : List ℕ) (s : LoadingOther) (y : Map SyncReqS
         record {
           start_in = ok.superblock_wf.start_in;
           len_in = ok.superblock_wf.len_in;
-          front_in = λ v t. (front_in g pieces s.superblock, ap (λ (p : Piece). loaded_piece p (front_in g pieces s.superblock)) (ins.front_in (v, t)));
+          front_in_is = λ v t. (front_in g pieces s.superblock, ap (λ (p : Piece). loaded_piece p (front_in g pieces s.superblock)) (ins.front_in_is (v, t)));
           back_in_is = λ v t. (back_in g pieces s.superblock, ap (λ (p : Piece). loaded_piece p (back_in g pieces s.superblock)) (ins.back_in_is (v, t)));
           loaded_is = finish_loading_other_phase_loads;
         }
@@ -88,6 +88,6 @@ module _ (g : Geometry) (pieces : List ℕ) (s : LoadingOther) (y : Map SyncReqS
   finish_loading_other_phase_complete C s' dop h =
       asked_finish_loading_other_phase g s
       (record {
-        front_in = λ t. let p = h.front_in t.0 t.1 in loaded_is s.front (front_in g pieces s.superblock) p.0 p.1;
+        front_in_is = λ t. let p = h.front_in_is t.0 t.1 in loaded_is s.front (front_in g pieces s.superblock) p.0 p.1;
         back_in_is = λ t. let p = h.back_in_is t.0 t.1 in loaded_is s.back (back_in g pieces s.superblock) p.0 p.1;
       })

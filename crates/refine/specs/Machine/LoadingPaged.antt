@@ -5,7 +5,7 @@ use Rattle.std.proofs.Math.Path.{sym, ap}
 use Rattle.std.proofs.Common.{◌∙◌, subst, inl, inr, arith, take_all}
 use mathlib.Core.List.{List, []}
 use Rattle.std.proofs.Math.Option.{Option, none, some}
-use Rattle.laws.specs.Choice.{asked_yes, asked_no, split-eq, split-le}
+use Rattle.laws.specs.Choice.{asked_yes, asked_no, split_eq, split_le}
 use Rattle.laws.specs.Cut.{flat, lengths}
 use Rattle.laws.specs.Splice.{splice, clipped, clipped_fits, clipped_past, splice_none}
 use Rattle.laws.specs.Sets.{Map}
@@ -37,7 +37,7 @@ module _ (p : Paged) (new : List ℕ) where
   pub asked_piece : length new ≡ p.len * 4096 → ask_piece p new ≡ 0
   unfolding ask_piece
   asked_piece e =
-      split-eq p.len 0
+      split_eq p.len 0
       (λ z. asked_yes {A = ℕ} p.len 0 (ask_size (interval p.place p.len) new) z)
       (λ n. asked_no {A = ℕ} p.len 0 (ask_size (interval p.place p.len) new) n ∙ asked_size (interval p.place p.len) new e)
 
@@ -55,13 +55,13 @@ module _ (p : Paged) (new : List ℕ) where
     unfolding paged_pieces copy_blocks
     paged_nowhere z =
         ap (λ (n : ℕ). clipped pieces (p.place * 4096) (take (n * 4096) new)) z
-        ∙ split-le (p.place * 4096) (length pieces)
+        ∙ split_le (p.place * 4096) (length pieces)
         (λ h. clipped_fits pieces (p.place * 4096) [] (omega arith) ∙ sym (splice_none pieces (p.place * 4096)))
         (λ h. clipped_past pieces (p.place * 4096) [] (omega arith))
 
 -- so many blocks as the bytes have
-pub blocks_all : (n : ℕ) (bytes : List ℕ) → length bytes ≡ n * 4096 → blocks_in (length bytes / 4096) bytes ≡ blocks_in n bytes
-blocks_all n bytes e = let d : length bytes / 4096 ≡ n = omega arith in ap (λ (k : ℕ). blocks_in k bytes) d
+pub blocks_all_is : (n : ℕ) (bytes : List ℕ) → length bytes ≡ n * 4096 → blocks_in (length bytes / 4096) bytes ≡ blocks_in n bytes
+blocks_all_is n bytes e = let d : length bytes / 4096 ≡ n = omega arith in ap (λ (k : ℕ). blocks_in k bytes) d
 
 module _ (g : Geometry) (pieces : List ℕ) (s : LoadingOther) (y : Map SyncReqStatus) (id : ReqId) where
   -- the view after an answer: r decides where its blocks go
@@ -95,14 +95,14 @@ module _ (g : Geometry) (pieces : List ℕ) (s : LoadingOther) (y : Map SyncReqS
         → PageInJournalResp⁺ (other_seen g pieces s y) (paged_seen read.Whole new) (RespReadJournalOp id (some (blocks_in (length new / 4096) new)))
         ⊎ NoOp⁺ (other_seen g pieces s y) (paged_seen read.Whole new) (RespReadJournalOp id (some (blocks_in (length new / 4096) new)))
     whole_sound k new e =
-        split-eq (place_of g s id).len 0
+        split_eq (place_of g s id).len 0
         (λ z. inr (unawaited read.Whole new (some (blocks_in (length new / 4096) new)) k z))
         (λ n.
         let long = piece_asked (place_of g s id) new n e in
         let room = place_in g s id (loading_other_facts g s k).superblock_wf in
         inl
         (subst (λ (d : JournalRange). PageInJournalResp⁺ (other_seen g pieces s y) (paged_seen read.Whole new) (RespReadJournalOp id (some d)))
-        (sym (blocks_all (place_of g s id).len new long))
+        (sym (blocks_all_is (place_of g s id).len new long))
         (subst (λ (ps : List ℕ). PageInJournalResp⁺ (other_seen g pieces s y) (other_seen g ps (page_in_journal_resp_next s id read.Whole) y) (RespReadJournalOp id (some (blocks_in (place_of g s id).len new))))
         (sym (paged_there (place_of g s id) new pieces long (omega arith)))
         (page_in_journal_resp_sound g pieces s y id k size (omega arith) new long))))
@@ -127,7 +127,7 @@ module _ (g : Geometry) (pieces : List ℕ) (s : LoadingOther) (y : Map SyncReqS
         → DamagedJournal (other_seen g pieces s y) (paged_seen read.Damaged new) (RespReadJournalOp id none)
         ⊎ NoOp⁺ (other_seen g pieces s y) (paged_seen read.Damaged new) (RespReadJournalOp id none)
     damaged_sound k =
-        split-eq (place_of g s id).len 0
+        split_eq (place_of g s id).len 0
         (λ z. inr (unawaited read.Damaged new none k z))
         (λ n.
         inl

@@ -3,7 +3,7 @@ use Rattle.std.specs.Prelude.{Bool, true, false, cond, not, ◌≡◌, refl, [],
 use Rattle.std.proofs.Common.{ap}
 use Rattle.std.proofs.Math.Option.{Option, none, some}
 use Rattle.laws.specs.Choice.{ruin}
-use Rattle.laws.specs.Sets.{at, none-some}
+use Rattle.laws.specs.Sets.{at, none_some}
 use Rattle.layout.specs.declared.Geometry.{Geometry}
 use Rattle.interval.specs.declared.JournalInterval.{JournalInterval}
 use Rattle.superblock.specs.declared.Superblock.{Superblock}
@@ -104,20 +104,20 @@ there_of (piece.Reading id) jr o f k u = f id refl
 there_of piece.In jr o f k u = k jr refl
 
 pub reading_read : (p : Piece) (id : ReqId) → p ≡ piece.Reading id → p ≡ piece.Unread → ⊥
-reading_read p id e u = none-some (ap awaited_read u) (ap awaited_read e)
+reading_read p id e u = none_some (ap awaited_read u) (ap awaited_read e)
 
 pub in_read : (p : Piece) → p ≡ piece.In → p ≡ piece.Unread → ⊥
-in_read p e u = none-some {o = loaded_piece p []} (ap (λ (x : Piece). loaded_piece x []) u) (ap (λ (x : Piece). loaded_piece x []) e)
+in_read p e u = none_some {o = loaded_piece p []} (ap (λ (x : Piece). loaded_piece x []) u) (ap (λ (x : Piece). loaded_piece x []) e)
 
 -- a read that is cleared under an id
-pub without_read : (p : Piece) (id : ReqId) → awaited_read (without_read p id) ≡ unless_is (awaited_read p) id
-without_read piece.Unread id = refl
-without_read (piece.Reading k) id = go (eqb k id)
+pub without_read_is : (p : Piece) (id : ReqId) → awaited_read (without_read p id) ≡ unless_is (awaited_read p) id
+without_read_is piece.Unread id = refl
+without_read_is (piece.Reading k) id = go (eqb k id)
   where
     go : (b : Bool) → awaited_read (cond b piece.Unread (piece.Reading k)) ≡ cond b none (some k)
     go true = refl
     go false = refl
-without_read piece.In id = refl
+without_read_is piece.In id = refl
 
 pub without_piece : (p : Piece) (id : ReqId) (jr : JournalRange) → loaded_piece (without_read p id) jr ≡ loaded_piece p jr
 without_piece piece.Unread id jr = refl

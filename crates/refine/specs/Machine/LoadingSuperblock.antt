@@ -6,7 +6,7 @@ use Rattle.std.proofs.Math.Path.{sym, ap}
 use Rattle.std.proofs.Common.{◌∙◌, inr}
 use Rattle.std.proofs.Math.Option.{Option, none, some}
 use Rattle.std.proofs.Math.Logic.{inl}
-use Rattle.laws.specs.Choice.{split-bool, true-false, not_so}
+use Rattle.laws.specs.Choice.{split_bool, true_false, not_so}
 use Rattle.laws.specs.Sets.{Map, no_keys, Two, at, put, put_at}
 use Rattle.layout.specs.declared.Geometry.{Geometry}
 use Rattle.superblock.specs.declared.Superblock.{Superblock}
@@ -46,14 +46,14 @@ module _ (s : LoadingSuperblock) (y : Map SyncReqStatus) where
     other_read = at_unnamed outstanding_read s.first s.second (is_second which)
 
     -- the view of the record with another read in a slot
-    to_slot : (r : SlotRead)
+    to_slot_is : (r : SlotRead)
         → loading_superblock_of (to_slot s which r) y
         ≡ record {
           outstanding_superblock_reads = put reads (is_second which) (outstanding_read r);
           superblocks = put results (is_second which) (read_result r);
           sync_reqs = y;
         }
-    to_slot r = go (is_second which)
+    to_slot_is r = go (is_second which)
       where
         go : (w : Bool)
             → loading_superblock_of (cond w (slots s.first r) (slots r s.second)) y
@@ -66,7 +66,7 @@ module _ (s : LoadingSuperblock) (y : Map SyncReqStatus) where
   pub superblock_meets : (g : Geometry) → loading_superblock_ok g s ≡ true → LoadingSuperblockMeets g s y
   superblock_meets g e =
       record {
-        inv = record { success_read = no_read; success_wf = wf; corruption_read = no_corrupt_read };
+        inv = record { success_read = no_read; success_wf_is = wf; corruption_read = no_corrupt_read };
         reads_differ = λ id p q. f.reads_differ id (outstanding_is s.first id p) (outstanding_is s.second id q);
       }
     where
@@ -89,8 +89,8 @@ module _ (s : LoadingSuperblock) (y : Map SyncReqStatus) where
   meets_superblock g h =
       facts_loading_superblock g s
       (record {
-        first_wf = λ superblock e. h.inv.success_wf false superblock (ap read_result e);
-        second_wf = λ superblock e. h.inv.success_wf true superblock (ap read_result e);
+        first_wf = λ superblock e. h.inv.success_wf_is false superblock (ap read_result e);
+        second_wf = λ superblock e. h.inv.success_wf_is true superblock (ap read_result e);
         reads_differ = λ id p q. h.reads_differ id (ap outstanding_read p) (ap outstanding_read q);
       })
 
@@ -101,7 +101,7 @@ module _ (s : LoadingSuperblock) (y : Map SyncReqStatus) where
         → loading_superblock_of (page_in_superblock_req_next s which id) y ≡ M.to_outstanding_superblock_reads (put reads (is_second which) (some id)) (loading_superblock_of s y)
     unfolding page_in_superblock_req_next
     req_next id e =
-        to_slot which (slot.Awaited id)
+        to_slot_is which (slot.Awaited id)
         ∙ (λ i.
         record {
           outstanding_superblock_reads = put reads (is_second which) (some id);
@@ -122,7 +122,7 @@ module _ (s : LoadingSuperblock) (y : Map SyncReqStatus) where
                 unfinished = result_at which ∙ ap read_result a.unasked;
                 next = ap Variables.LoadingSuperblock (req_next id a.unasked);
               };
-          other_slot = λ w. a.other_slot (outstanding_is (other_slot s which) id (sym (other_read which) ∙ w.2 ∙ ap some (same_id w.0 w.1)));
+          other_slot_is = λ w. a.other_slot_is (outstanding_is (other_slot s which) id (sym (other_read which) ∙ w.2 ∙ ap some (same_id w.0 w.1)));
         }
       where
         same_id : (k : ReqId) → ReqReadSuperblockOp id (is_second which) ≡ ReqReadSuperblockOp k (is_second which) → k ≡ id
@@ -136,7 +136,7 @@ module _ (s : LoadingSuperblock) (y : Map SyncReqStatus) where
           asked_page_in_superblock_req s which h.source.id
               (record {
                 which_in = l;
-                other_slot = λ e. h.other_slot (h.source.id, h.source.op, other_read which ∙ ap outstanding_read e);
+                other_slot_is = λ e. h.other_slot_is (h.source.id, h.source.op, other_read which ∙ ap outstanding_read e);
                 unasked = u;
               }),
           h.source.next ∙ sym (ap Variables.LoadingSuperblock (req_next h.source.id u)),
@@ -153,7 +153,7 @@ module _ (s : LoadingSuperblock) (y : Map SyncReqStatus) where
     resp_next e =
         ap Variables.LoadingSuperblock
         (ap (λ (x : LoadingSuperblock). loading_superblock_of x y) (resp_awaited s which id g r e)
-        ∙ to_slot which (slot_read g r)
+        ∙ to_slot_is which (slot_read g r)
         ∙ (λ i.
         record {
           outstanding_superblock_reads = put reads (is_second which) (ended_none g r i);
@@ -174,7 +174,7 @@ module _ (s : LoadingSuperblock) (y : Map SyncReqStatus) where
         PageInSuperblockResp g (superblocks_seen s y) (superblocks_seen (page_in_superblock_resp_next g s which id r) y) (RespReadSuperblockOp id (is_second which) (superblock_in r)) (is_second which)
         ⊎ NoOp⁺ (superblocks_seen s y) (superblocks_seen (page_in_superblock_resp_next g s which id r) y) (RespReadSuperblockOp id (is_second which) (superblock_in r))
     page_in_superblock_resp_sound =
-        split-bool (superblock_awaited s which id)
+        split_bool (superblock_awaited s which id)
         (λ e. inl (record { id = id; superblock = superblock_in r; op = refl; waiting = waiting e; next = resp_next e }))
         (λ e.
         inr
@@ -184,7 +184,7 @@ module _ (s : LoadingSuperblock) (y : Map SyncReqStatus) where
                 op = M.NoOpOp.superblock_read_op id (is_second which) (superblock_in r) refl;
                 next = ap (λ (x : LoadingSuperblock). superblocks_seen x y) (resp_unawaited s which id g r e);
               };
-          unawaited = λ w. true-false (sym (awaited w) ∙ e);
+          unawaited = λ w. true_false (sym (awaited w) ∙ e);
         }))
 
     pub page_in_superblock_resp_complete : (s' : Variables)
@@ -253,7 +253,7 @@ module _ (s : LoadingSuperblock) (y : Map SyncReqStatus) where
         → loading_superblock_of (ask_again_next s which) y ≡ M.to_superblocks (put results (is_second which) SuperblockUnfinished) (loading_superblock_of s y)
     unfolding ask_again_next
     again_next e =
-        to_slot which slot.Unasked
+        to_slot_is which slot.Unasked
         ∙ (λ i.
         record {
           outstanding_superblock_reads = (ap (put reads (is_second which)) (sym (read_at which ∙ ap outstanding_read e)) ∙ put_at reads (is_second which)) i;

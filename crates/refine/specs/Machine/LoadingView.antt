@@ -88,8 +88,8 @@ abbrev pub loading_other_of : Geometry → List ℕ → LoadingOther → Map Syn
 loading_other_of g pieces s sync_reqs =
     record {
       superblock = s.superblock;
-      which_superblock = is_second s.which_superblock;
-      journal_reads = two (awaited_read s.front) (awaited_read s.back);
+      whichSuperblock = is_second s.whichSuperblock;
+      journalReads = two (awaited_read s.front) (awaited_read s.back);
       journal_pieces = two (loaded_piece s.front (front_in g pieces s.superblock)) (loaded_piece s.back (back_in g pieces s.superblock));
       sync_reqs = sync_reqs;
     }
@@ -101,5 +101,5 @@ other_seen g pieces s sync_reqs = Variables.LoadingOther (loading_other_of g pie
 -- piece already in is met by the type; that a piece has its interval's length by lent memory's.
 pub record LoadingOtherMeets (g : Geometry) (pieces : List ℕ) (s : LoadingOther) (sync_reqs : Map SyncReqStatus) : Type 0 where
   pub inv : InvLoadingOther g (loading_other_of g pieces s sync_reqs)
-  pub reads_differ : ReadsDiffer (loading_other_of g pieces s sync_reqs).journal_reads
-  pub which_in : s.which_superblock ≤ 1
+  pub reads_differ : ReadsDiffer (loading_other_of g pieces s sync_reqs).journalReads
+  pub which_in : s.whichSuperblock ≤ 1

@@ -3,7 +3,7 @@
 -- said by an equation that needs the yes.
 use Rattle.std.specs.Prelude.{ℕ, ◌≡◌, refl, List}
 use Rattle.std.proofs.Common.{sym, ◌∙◌, ap, subst}
-use Rattle.laws.specs.Choice.{and_then, and_then_left, and_then_right, and_then_both, unless, unless-kept}
+use Rattle.laws.specs.Choice.{and_then, and_then_left, and_then_right, and_then_both, unless, unless_kept}
 use Rattle.layout.specs.declared.Geometry.{Geometry}
 use Rattle.superblock.specs.declared.DiskOp.{DiskOp}
 use Rattle.codec.specs.Codec.{JournalRange}
@@ -42,9 +42,9 @@ module _ (g : Geometry) (l : Lent) (m : Machine) (q : ℕ) (op : DiskOp) (next :
             (subst (λ (x : DiskOp). NextStep⁺ g format (machine_of g l m) (machine_of g after next) (operation_of x jr) step) (sym k.1) (f k.0).1);
       }
 
-  pub answered_by : (s' : Variables) → q ≡ 0 → machine_of g after next ≡ s'
+  pub answered_by_is : (s' : Variables) → q ≡ 0 → machine_of g after next ≡ s'
       → ((answered q op next m).answer ≡ answer.Next op) × (machine_of g l' (answered q op next m).machine ≡ s')
-  answered_by s' e p = (ap (λ (x : MachineStepped). x.answer) (asked_next q op next m e), seen_next e ∙ p)
+  answered_by_is s' e p = (ap (λ (x : MachineStepped). x.answer) (asked_next q op next m e), seen_next e ∙ p)
 
 -- A step that asks questions 1 and 2 first, then its own
 
@@ -71,7 +71,7 @@ module _ (g : Geometry) (l : Lent) (m : Machine) (z : SizedMachine m) (r : ℕ) 
       pub complete_by : (s' : Variables) → MachineLent g l → MachineForm l m → MachineMeets g limits (machine_of g l m) → r ≡ 0 → machine_of g after next ≡ s'
           → ((answered (and_then (ask_machine g l m) r) op next m).answer ≡ answer.Next op)
           × (machine_of g l' (answered (and_then (ask_machine g l m) r) op next m).machine ≡ s')
-      complete_by s' t f h e p = answered_by g l m asks op next l' after same s' (met_asks t f h e) p
+      complete_by s' t f h e p = answered_by_is g l m asks op next l' after same s' (met_asks t f h e) p
 
     -- lent memory stays
     pub sound_same : (jr : JournalRange) (step : Step⁺) (o : DiskOp) → (answered (and_then (ask_machine g l m) r) op next m).answer ≡ answer.Next o
@@ -98,7 +98,7 @@ refused_keeps q n op next m e =
       some_no = refused_asked q op next m n e;
       number = refused_number q op next m n e;
       machine_kept = refused_same q op next m n e;
-      memory_kept = λ old new. unless-kept q old new (refused_asked q op next m n e);
+      memory_kept = λ old new. unless_kept q old new (refused_asked q op next m n e);
     }
 
 -- and the view stays

@@ -2,7 +2,7 @@
 use Rattle.std.specs.Prelude.{ℕ, ◌-◌, true, cond, ◌≡◌, refl, List, [], ◌∷◌, leb, length}
 use Rattle.std.proofs.Math.Path.{sym, ap}
 use Rattle.std.proofs.Common.{◌∙◌, arith}
-use Rattle.laws.specs.Choice.{and_then_left, and_then_right, and_then_both, by-leb, ruin}
+use Rattle.laws.specs.Choice.{and_then_left, and_then_right, and_then_both, by_leb, ruin}
 use Rattle.laws.specs.Sets.{Map}
 use Rattle.layout.specs.declared.Geometry.{Geometry}
 use Rattle.layout.specs.declared.Location.{Location}
@@ -38,14 +38,14 @@ use Rattle.refine.specs.Machine.MachineWriting.{sent_syncs}
 use Rattle.refine.specs.Machine.MachineWork.{work_asked, asks_work, work_seen, work_form, work_out, work_step}
 
 -- the location that was received
-new_location : (q : MaybeLocation) (old : Location) → is_received q ≡ true → q ≡ Received (received_or q old)
-new_location NoLocation old e = ruin (cc)
-new_location (Received loc) old e = refl
+new_location_is : (q : MaybeLocation) (old : Location) → is_received q ≡ true → q ≡ Received (received_or q old)
+new_location_is NoLocation old e = ruin (cc)
+new_location_is (Received loc) old e = refl
 
 -- none in memory, as a test of the counts and of the list
 by_empty : {A : Type 0} (es : List JournalEntry) (n k : ℕ) (x y : A) → length es ≡ n - k → if_none es x y ≡ cond (leb n k) x y
-by_empty [] n k x y e = by-leb (λ (a : _). x ≡ a) n k x y (λ h. refl) (λ h. absurd (omega (arith, e)))
-by_empty (z ∷ zs) n k x y e = by-leb (λ (a : _). y ≡ a) n k x y (λ h. absurd (omega (arith, e))) (λ h. refl)
+by_empty [] n k x y e = by_leb (λ (a : _). x ≡ a) n k x y (λ h. refl) (λ h. absurd (omega (arith, e)))
+by_empty (z ∷ zs) n k x y e = by_leb (λ (a : _). y ≡ a) n k x y (λ h. absurd (omega (arith, e))) (λ h. refl)
 
 module _ (g : Geometry) (l : Lent) (m : Machine) where
   -- the machine as the source's request leaves it, and what is then done to the sync requests
@@ -104,7 +104,7 @@ module _ (g : Geometry) (l : Lent) (m : Machine) where
         source =
             work_step g l l m (with_ready m next) (λ s s'. WriteBackSuperblockReq-AdvanceLocationClauses g s s' (operation_of (advance_location_op g m id) [])) k k
             (R.location_sound g (ready_lent l) (syncs_of m) m.ready (work_form g l m k form) id (new_location m)
-            (new_location m.ready.frozen.frozen_loc m.ready.superblock.indirectionTableLoc (location_asked g m.ready q).received)
+            (new_location_is m.ready.frozen.frozenLoc m.ready.superblock.indirectionTableLoc (location_asked g m.ready q).received)
             q);
         next = commit_synced k form next;
       }

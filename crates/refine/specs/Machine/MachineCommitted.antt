@@ -5,7 +5,7 @@ use Rattle.std.proofs.Math.Path.{sym, ap, subst}
 use Rattle.std.proofs.Common.{◌∙◌, ⊎_elim, arith}
 use Rattle.std.proofs.Math.Logic.{inl, inr}
 use Rattle.std.proofs.Math.Option.{some}
-use Rattle.laws.specs.Choice.{and_then, split-bool, not_so}
+use Rattle.laws.specs.Choice.{and_then, split_bool, not_so}
 use Rattle.laws.specs.Sets.{Map}
 use Rattle.layout.specs.declared.Geometry.{Geometry}
 use Rattle.superblock.specs.declared.DiskOp.{DiskOp}
@@ -22,7 +22,7 @@ use Rattle.source.specs.Limits.{limits}
 use Rattle.source.specs.Meets.{MachineMeets}
 use Rattle.source.specs.Departures.{NoOp⁺, Source}
 use Rattle.source.specs.Within.{MachineAllowed}
-use Rattle.source.specs.Laws.Cases.{by_ready}
+use Rattle.source.proofs.Laws.Cases.{by_ready}
 use Rattle.machine.specs.declared.Kind.TheVariants as kind
 use Rattle.machine.specs.declared.Machine.{Machine}
 use Rattle.machine.specs.declared.MachineAnswer.TheVariants as answer
@@ -84,7 +84,7 @@ module _ (g : Geometry) (l : Lent) (m : Machine) (id : ℕ) where
     dop = operation_of (write_back_superblock_resp_op which id) []
 
     no_op_by : (AwaitsCommit → ⊥) → NoOp⁺ (machine_of g l m) (machine_of g l (write_back_superblock_resp_machine m id)) dop
-    no_op_by n = record { source = record { op = M.NoOpOp.superblock_written id (slot_of which) refl n; next = ap (machine_of g l) (unawaited_same n) }; unawaited = n }
+    no_op_by n = record { source = record { op = M.NoOpOp.superblock_written_is id (slot_of which) refl n; next = ap (machine_of g l) (unawaited_same n) }; unawaited = n }
 
     pub superblock_resp_clauses : MachineForm l m
         → M.WriteBackSuperblockResp (machine_of g l m) (machine_of g l (write_back_superblock_resp_machine m id)) dop
@@ -93,7 +93,7 @@ module _ (g : Geometry) (l : Lent) (m : Machine) (id : ℕ) where
     superblock_resp_clauses form =
         by_work m
         (λ k.
-        split-bool (awaits_id m.ready.commit id)
+        split_bool (awaits_id m.ready.commit id)
         (λ e. inl (awaited k e))
         (λ e. inr (no_op_by (λ w. (R.superblock_unawaited (ready_lent l) (syncs_of m) m.ready id e).1 (work_out g l m (λ s. s.superblock_write ≡ some id) w).1))))
         (λ n. inr (no_op_by (λ w. n (work_out g l m (λ s. s.superblock_write ≡ some id) w).0)))

@@ -3,7 +3,7 @@ use Rattle.std.specs.Prelude.{ℕ, ◌+◌, ◌≤◌, ◌≡◌, length, take}
 use Rattle.std.proofs.Math.Path.{sym, subst}
 use Rattle.std.proofs.Common.{◌∙◌, ap, arith, length-take-le, take_all}
 use mathlib.Core.List.{List, [], append-nil}
-use Rattle.laws.specs.Choice.{and_then_left, and_then_right, and_then_both, unless-done}
+use Rattle.laws.specs.Choice.{and_then_left, and_then_right, and_then_both, unless_done}
 use Rattle.laws.specs.Fold.{sum}
 use Rattle.laws.specs.Cut.{cut, flat, lengths, length_lengths, length_flat, cut_flat}
 use Rattle.laws.specs.Splice.{splice, clipped, clipped_fits}
@@ -152,7 +152,7 @@ module _ (g : Geometry) (l : Lent) (m : Machine) (brought sizes : List ℕ) (k :
             work_step g l appended m next (λ s s'. AdvanceClauses s s' D.NoDiskOp es) e (next_kind e)
             (subst (λ (s' : Variables). AdvanceClauses (work_of l m) s' D.NoDiskOp es) (advance_view e met.lent q room)
             (A.advance_sound (ready_lent l) (syncs_of m) m.ready f.pending brought sizes k (asked_entries brought sizes k (added_asked (memory brought sizes k) q).0) store_limits f.replay room));
-        none_blank = (added_asked (memory brought sizes k) q).1;
+        none_blank_is = (added_asked (memory brought sizes k) q).1;
       }
 
   pub clauses_advance : MachineLent g l → MachineForm l m → Given brought sizes k → StepLimits limits (AdvanceStep es) → (s' : Variables) (dop : D.DiskOp)
@@ -163,7 +163,7 @@ module _ (g : Geometry) (l : Lent) (m : Machine) (brought sizes : List ℕ) (k :
       let w = work_out g l m (λ s. AdvanceClauses s s' dop es) h.source in
       let f = work_form g l m w.0 form in
       let few = subst (MachineCounts limits) w.1.next counts in
-      let q = asked_added (memory brought sizes k) (entries_asked brought sizes k given step.few step.fit) h.none_blank in
+      let q = asked_added (memory brought sizes k) (entries_asked brought sizes k given step.few step.fit) h.none_blank_is in
       let c = A.advance_complete (ready_lent l) (syncs_of m) m.ready f.pending brought sizes k given store_limits f.replay s' dop w.1 few.pending_few few.pending_small in (
         and_then_both _ _ (asks_work m w.0) (and_then_both _ _ (given_refusal brought sizes k ∙ q) (room_is w.0 q ∙ c.0)),
         work_seen g appended next (next_kind w.0) ∙ sym (advance_view w.0 t q c.0) ∙ c.1,
@@ -180,8 +180,8 @@ module _ (g : Geometry) (l : Lent) (m : Machine) (z : SizedMachine m) (brought s
   lent_advanced q =
       λ i.
       record {
-        bytes = unless-done (ask_add g l m brought sizes k) l.bytes (appended g l m brought sizes k).bytes q i;
-        lens = unless-done (ask_add g l m brought sizes k) l.lens (appended g l m brought sizes k).lens q i;
+        bytes = unless_done (ask_add g l m brought sizes k) l.bytes (appended g l m brought sizes k).bytes q i;
+        lens = unless_done (ask_add g l m brought sizes k) l.lens (appended g l m brought sizes k).lens q i;
         pieces = l.pieces;
         rbytes = l.rbytes;
         rlens = l.rlens;

@@ -5,7 +5,7 @@ use Rattle.std.proofs.Math.Path.{refl, ap}
 use Rattle.std.proofs.Common.{sym, ◌∙◌, subst, arith, length-take}
 use mathlib.Core.List.{List, []}
 use Rattle.std.proofs.Math.Option.{some}
-use Rattle.laws.specs.Choice.{and_then_left, and_then_right, and_then_both, ask_holds, unless-done}
+use Rattle.laws.specs.Choice.{and_then_left, and_then_right, and_then_both, ask_holds, unless_done}
 use Rattle.laws.specs.Cut.{flat, lengths}
 use Rattle.laws.specs.Splice.{splice}
 use Rattle.laws.specs.Sets.{Map}
@@ -36,12 +36,12 @@ use Rattle.machine.specs.Whole.{ask_finish, finish_loading_other_phase, finished
 use Rattle.refine.specs.Machine.LoadingView.{loading_other_of, other_seen}
 use Rattle.refine.specs.Machine.LoadingFinish as L
 use Rattle.refine.specs.Machine.ReadyView.{ReadyLent, ready_of}
-use Rattle.source.specs.Laws.Loaded.{loaded_state, loaded_clauses, clauses_loaded}
+use Rattle.source.proofs.Laws.Loaded.{loaded_state, loaded_clauses, clauses_loaded}
 use Rattle.refine.specs.Machine.ReadyLoaded.{loaded_view}
 use Rattle.refine.specs.Machine.MachineView.{syncs_of, machine_of, operation_of, SizedMachine, MachineLent, MachineForm}
 use Rattle.refine.specs.Machine.MachineMeets.{KindOk, machine_kind_ok, met_machine}
 use Rattle.refine.specs.Machine.MachineCalls.{sound_by, complete_by}
-use Rattle.refine.specs.Machine.MachineKinds.{by_kind_is, asked_other}
+use Rattle.refine.specs.Machine.MachineKinds.{by_kind_is, asked_other_is}
 
 -- Of the two records
 
@@ -57,11 +57,11 @@ module _ (g : Geometry) (l : Lent) (s : LoadingOther) (y : Map SyncReqStatus) wh
   replayed = record { bytes = l.bytes; lens = l.lens; rbytes = splice l.rbytes 0 (flat (all_entries bytes)); rlens = splice l.rlens 0 (lengths (all_entries bytes)) }
 
   -- the record after the phase, as it is seen there
-  loaded_seen : Room bytes l.rbytes l.rlens → ready_of replayed y (loaded s.superblock s.which_superblock (length (all_entries bytes))) ≡ loaded_state seen (all_entries bytes)
+  loaded_seen : Room bytes l.rbytes l.rlens → ready_of replayed y (loaded s.superblock s.whichSuperblock (length (all_entries bytes))) ≡ loaded_state seen (all_entries bytes)
   loaded_seen r =
       let few = all_entries_count length_width most_entry_length bytes r.parse in
       let small = all_entries_bytes length_width most_entry_length bytes r.parse in
-      loaded_view replayed seen s.superblock s.which_superblock (length (all_entries bytes)) refl refl
+      loaded_view replayed seen s.superblock s.whichSuperblock (length (all_entries bytes)) refl refl
       ∙ ap (loaded_state seen)
       (filled_entries l.rbytes l.rlens (all_entries bytes) (all_entries_each length_width most_entry_length bytes r.parse)
       (omega (arith, small, r.for_bytes)) (omega (arith, few, r.for_lens)))
@@ -74,7 +74,7 @@ module _ (g : Geometry) (l : Lent) (s : LoadingOther) (y : Map SyncReqStatus) wh
 
     phase_sound : Room bytes l.rbytes l.rlens
         → FinishLoadingOtherPhase⁺ g format (other_seen g l.pieces s y)
-        (Variables.Ready (ready_of replayed y (loaded s.superblock s.which_superblock (length (all_entries bytes))))) D.NoDiskOp
+        (Variables.Ready (ready_of replayed y (loaded s.superblock s.whichSuperblock (length (all_entries bytes))))) D.NoDiskOp
     phase_sound r =
         let c = L.finish_loading_other_phase_sound g l.pieces s y k e in
         subst (λ (v : ReadyVariables). FinishLoadingOtherPhase⁺ g format (other_seen g l.pieces s y) (Variables.Ready v) D.NoDiskOp) (sym (loaded_seen r))
@@ -84,7 +84,7 @@ module _ (g : Geometry) (l : Lent) (s : LoadingOther) (y : Map SyncReqStatus) wh
               (record {
                 start_in = c.start_in;
                 len_in = c.len_in;
-                front_in = c.front_in;
+                front_in_is = c.front_in_is;
                 back_in_is = c.back_in_is;
                 parses = parses_is ∙ parse_all_some length_width most_entry_length bytes r.parse;
               });
@@ -101,7 +101,7 @@ module _ (g : Geometry) (l : Lent) (s : LoadingOther) (y : Map SyncReqStatus) wh
       → (ask_finish_loading_other_phase g s ≡ 0)
       × (ask_unpack bytes l.rbytes l.rlens ≡ 0)
       × (dop ≡ D.NoDiskOp)
-      × (Variables.Ready (ready_of replayed y (loaded s.superblock s.which_superblock (length (all_entries bytes)))) ≡ s')
+      × (Variables.Ready (ready_of replayed y (loaded s.superblock s.whichSuperblock (length (all_entries bytes)))) ≡ s')
   phase_complete t k (Variables.Ready v) dop h =
       let e = L.finish_loading_other_phase_complete g l.pieces s y format v dop h.source in
       let c = clauses_loaded g format seen v dop h.source h.position_is in
@@ -136,14 +136,14 @@ module _ (g : Geometry) (l : Lent) (m : Machine) where
   same_lent : ask_finish g l m ≡ 0 → finished_lent g l m ≡ after l m
   same_lent e =
       λ i.
-      with_replay l (unless-done (ask_finish g l m) l.rbytes (loaded_replay_bytes m l.pieces l.rbytes) e i)
-      (unless-done (ask_finish g l m) l.rlens (loaded_replay_lens m l.pieces l.rlens) e i)
+      with_replay l (unless_done (ask_finish g l m) l.rbytes (loaded_replay_bytes m l.pieces l.rbytes) e i)
+      (unless_done (ask_finish g l m) l.rlens (loaded_replay_lens m l.pieces l.rlens) e i)
 
   pub finish_loading_other_phase_clauses : ask_machine g l m ≡ 0 → ask_loaded g m l.pieces l.rbytes l.rlens ≡ 0
       → FinishLoadingOtherPhase⁺ g format (machine_of g l m) (seen_after g l m) D.NoDiskOp
   unfolding ask_loaded ask_finish_loading_other_phase_step loaded_machine
   finish_loading_other_phase_clauses a e =
-      asked_other
+      asked_other_is
       (λ m.
       KindOk g m
       → FinishLoadingOtherPhase⁺ g format (machine_of g l m) (seen_after g l m) D.NoDiskOp)

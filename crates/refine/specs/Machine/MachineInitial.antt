@@ -1,14 +1,14 @@
 -- The machine as a crash leaves it is 000's Init: no slot asked for, and no sync request. It meets question 2.
 use Rattle.std.specs.Prelude.{ℕ, true, ◌≡◌, refl, []}
 use Rattle.std.proofs.Common.{sym, ◌∙◌, ap, arith}
-use Rattle.laws.specs.Choice.{false-true, ruin}
+use Rattle.laws.specs.Choice.{false_true, ruin}
 use Rattle.laws.specs.Fold.{every}
 use Rattle.laws.specs.Sets.{Map, each, keys, AtMost, Distinct}
 use Rattle.layout.specs.declared.Geometry.{Geometry}
 use Rattle.tables.specs.IdTable.{SizedIds}
 use Rattle.tables.specs.SyncTable.{no_syncs, sync_map, valid_states}
-use Rattle.tables.specs.Laws.IdTables.{sized_no_ids}
-use Rattle.tables.specs.Laws.SyncTables.{states_empty, sized_no_syncs}
+use Rattle.tables.proofs.Laws.IdTables.{sized_no_ids}
+use Rattle.tables.proofs.Laws.SyncTables.{states_empty, sized_no_syncs}
 use Rattle.loading.specs.Superblocks.{initial, loading_superblock_ok}
 use Rattle.loading.specs.Laws.Superblocks.{facts_loading_superblock}
 use Rattle.ready.specs.State.{loaded}
@@ -42,7 +42,7 @@ no_syncs_few =
     record {
       listed = [];
       few = omega arith;
-      all = λ i e. false-true (sym (ap (λ (m : Map ℕ). keys (each state_of m) i) states_empty) ∙ e);
+      all = λ i e. false_true (sym (ap (λ (m : Map ℕ). keys (each state_of m) i) states_empty) ∙ e);
     }
 
 initial_ok : (g : Geometry) → loading_superblock_ok g initial ≡ true

@@ -22,7 +22,7 @@ use Rattle.refine.specs.Machine.ReadyView.{slot_of}
 use Rattle.refine.specs.Machine.MachineView.{syncs_of, machine_of, operation_of, SizedMachine, MachineLent, MachineForm}
 use Rattle.refine.specs.Machine.MachineMeets.{KindOk, machine_kind_ok}
 use Rattle.refine.specs.Machine.MachineCalls.{sound_same, complete_same}
-use Rattle.refine.specs.Machine.MachineKinds.{by_kind_is, asked_other}
+use Rattle.refine.specs.Machine.MachineKinds.{by_kind_is, asked_other_is}
 
 module _ (g : Geometry) (l : Lent) (m : Machine) where
   -- PageInJournalReq
@@ -32,7 +32,7 @@ module _ (g : Geometry) (l : Lent) (m : Machine) where
         → PageInJournalReq g (machine_of g l m) (machine_of g l (page_in_journal_req_machine m which id)) (operation_of (page_in_journal_req_op g m which id) []) (slot_of which)
     unfolding ask_page_in_journal_req_step page_in_journal_req_machine
     page_in_journal_req_clauses id a e =
-        asked_other
+        asked_other_is
         (λ m.
         KindOk g m
         → PageInJournalReq g (machine_of g l m) (machine_of g l (page_in_journal_req_machine m which id)) (operation_of (page_in_journal_req_op g m which id) []) (slot_of which))

@@ -7,7 +7,7 @@ use mathlib.Core.List.{List, []}
 use Rattle.std.proofs.Math.Option.{Option, none, some}
 use Rattle.std.proofs.Math.Logic.{inr}
 use Rattle.std.proofs.Math.ListN.{replicate}
-use Rattle.laws.specs.Choice.{and_then_left, and_then_right, unless-done}
+use Rattle.laws.specs.Choice.{and_then_left, and_then_right, unless_done}
 use Rattle.laws.specs.Cut.{flat, lengths}
 use Rattle.layout.specs.declared.Geometry.{Geometry}
 use Rattle.interval.specs.declared.JournalInterval.{JournalInterval}
@@ -24,7 +24,7 @@ use Rattle.source.specs.Limits.{limits}
 use Rattle.source.specs.Meets.{MachineMeets}
 use Rattle.source.specs.Departures.{Step⁺, NextStep⁺, Source, DamagedJournalStep, PageInJournalResp⁺, DamagedJournal, NoOp⁺}
 use Rattle.source.specs.Within.{AwaitedPiece, MachineAllowed, MachineWithin}
-use Rattle.source.specs.Laws.Awaited.{awaited_read}
+use Rattle.source.proofs.Laws.Awaited.{awaited_read_is}
 use Rattle.loading.specs.Other.{place}
 use Rattle.machine.specs.declared.Machine.{Machine}
 use Rattle.machine.specs.declared.MachineAnswer.TheVariants as answer
@@ -35,9 +35,9 @@ use Rattle.machine.specs.Loading.{paged_in, ask_piece, page_in_journal_resp_op, 
 use Rattle.machine.specs.Whole.{ask_paged, page_in_journal_resp, page_in_journal_resp_pieces}
 use Rattle.refine.specs.Machine.LoadingView.{blocks_in, loading_other_of}
 use Rattle.refine.specs.Machine.LoadedBlocks.{sized_flat, sized_blocks}
-use Rattle.refine.specs.Machine.LoadingPaged.{asked_nowhere, blocks_all, whole_sound, whole_complete, damaged_sound, damaged_complete, paged_unawaited}
+use Rattle.refine.specs.Machine.LoadingPaged.{asked_nowhere, blocks_all_is, whole_sound, whole_complete, damaged_sound, damaged_complete, paged_unawaited}
 use Rattle.refine.specs.Machine.MachineView.{syncs_of, machine_of, whole_in, operation_of, SizedMachine, MachineLent, MachineForm, KindForm}
-use Rattle.refine.specs.Machine.MachineMeets.{KindOk, machine_kind_ok, machine_lent}
+use Rattle.refine.specs.Machine.MachineMeets.{KindOk, machine_kind_ok, machine_lent_is}
 use Rattle.refine.specs.Machine.MachineCalls.{sound_by, complete_by}
 use Rattle.refine.specs.Machine.MachineKinds.{by_kind_is}
 
@@ -71,9 +71,9 @@ module _ (g : Geometry) (l : Lent) (m : Machine) where
         → PageInJournalResp⁺ (machine_of g l m) (seen_after g l m id read.Whole new) whole_dop
         ⊎ NoOp⁺ (machine_of g l m) (seen_after g l m id read.Whole new) whole_dop)
         m
-        (λ k q. inr (record { source = record { op = M.NoOpOp.journal_read id (some (blocks_in (length new / 4096) new)) refl; next = refl }; unawaited = λ w. w }))
-        (λ k q. whole_sound g l.pieces m.other (syncs_of m) id (machine_lent g l m a).pieces_lent k new q)
-        (λ k q. inr (record { source = record { op = M.NoOpOp.journal_read id (some (blocks_in (length new / 4096) new)) refl; next = refl }; unawaited = λ w. w }))
+        (λ k q. inr (record { source = record { op = M.NoOpOp.journal_read_is id (some (blocks_in (length new / 4096) new)) refl; next = refl }; unawaited = λ w. w }))
+        (λ k q. whole_sound g l.pieces m.other (syncs_of m) id (machine_lent_is g l m a).pieces_lent k new q)
+        (λ k q. inr (record { source = record { op = M.NoOpOp.journal_read_is id (some (blocks_in (length new / 4096) new)) refl; next = refl }; unawaited = λ w. w }))
         (machine_kind_ok g l m a) e
 
     pub damaged_clauses : ask_machine g l m ≡ 0
@@ -87,9 +87,9 @@ module _ (g : Geometry) (l : Lent) (m : Machine) where
         → DamagedJournal (machine_of g l m) (seen_after g l m id read.Damaged new) (D.RespReadJournalOp id none)
         ⊎ NoOp⁺ (machine_of g l m) (seen_after g l m id read.Damaged new) (D.RespReadJournalOp id none))
         m
-        (λ k. inr (record { source = record { op = M.NoOpOp.journal_read id none refl; next = refl }; unawaited = λ w. w }))
+        (λ k. inr (record { source = record { op = M.NoOpOp.journal_read_is id none refl; next = refl }; unawaited = λ w. w }))
         (λ k. damaged_sound g l.pieces m.other (syncs_of m) id new k)
-        (λ k. inr (record { source = record { op = M.NoOpOp.journal_read id none refl; next = refl }; unawaited = λ w. w }))
+        (λ k. inr (record { source = record { op = M.NoOpOp.journal_read_is id none refl; next = refl }; unawaited = λ w. w }))
         (machine_kind_ok g l m a)
 
     -- an answer that nobody awaits, whatever it brings
@@ -131,7 +131,7 @@ module _ (g : Geometry) (l : Lent) (m : Machine) where
       (λ f k h p.
       let x = h.1 in
       let sized : (v : JournalInterval) → journal_interval_of_superblock g h.0 m.other.superblock ≡ some v → lengths x.jr ≡ replicate v.len 4096 =
-      λ v e. p x.id x.jr v x.op (awaited_read g (loading_other_of g l.pieces m.other (syncs_of m)) k.shape h.0 x.id v x.waiting e) in
+      λ v e. p x.id x.jr v x.op (awaited_read_is g (loading_other_of g l.pieces m.other (syncs_of m)) k.shape h.0 x.id v x.waiting e) in
       let v = k.inv.read_interval h.0 x.id x.waiting in
       let s = sized v.0 v.1 in
       let c =
@@ -141,7 +141,7 @@ module _ (g : Geometry) (l : Lent) (m : Machine) where
         x.id,
         x.jr,
         c.0,
-        x.op ∙ ap (λ (d : JournalRange). D.RespReadJournalOp x.id (some d)) (sym (blocks_all v.0.len (flat x.jr) (sized_flat v.0.len x.jr s) ∙ sized_blocks v.0.len x.jr s)),
+        x.op ∙ ap (λ (d : JournalRange). D.RespReadJournalOp x.id (some d)) (sym (blocks_all_is v.0.len (flat x.jr) (sized_flat v.0.len x.jr s) ∙ sized_blocks v.0.len x.jr s)),
         c.1,
         x.op,
       ))
@@ -180,7 +180,7 @@ module _ (g : Geometry) (l : Lent) (m : Machine) where
 
   module _ (z : SizedMachine m) where
     same_lent : (id : ℕ) (r : JournalRead) (new : List ℕ) → ask_paged g l m id r new ≡ 0 → answered_lent g l m id r new ≡ after g l m id r new
-    same_lent id r new e = ap (with_pieces l) (unless-done (ask_paged g l m id r new) l.pieces (paged_pieces (paged_in g m id r) new l.pieces) e)
+    same_lent id r new e = ap (with_pieces l) (unless_done (ask_paged g l m id r new) l.pieces (paged_pieces (paged_in g m id r) new l.pieces) e)
 
     -- what each takes off: questions 1 and 2
     allowed : (id : ℕ) (r : JournalRead) (new : List ℕ) (jr : JournalRange) (step : Step⁺) (o : DiskOp) → (page_in_journal_resp g l m id r new).answer ≡ answer.Next o

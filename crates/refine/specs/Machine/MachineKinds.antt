@@ -35,8 +35,8 @@ module _ (P : Machine → Type 0) (m : Machine) where
       go kind.LoadingOther q = ruin (omega arith)
       go kind.Ready q = ruin (omega arith)
 
-  pub asked_other : ask_loading_other m ≡ 0 → P (of_kind m kind.LoadingOther) → P m
-  asked_other e a = go m.kind e
+  pub asked_other_is : ask_loading_other m ≡ 0 → P (of_kind m kind.LoadingOther) → P m
+  asked_other_is e a = go m.kind e
     where
       go : (k : Kind) → ask_loading_other (of_kind m k) ≡ 0 → P (of_kind m k)
       go kind.LoadingSuperblock q = ruin (omega arith)

@@ -11,8 +11,8 @@ use Rattle.layout.specs.Geometry.{num_journal_blocks}
 use Rattle.tables.specs.declared.SyncTable.{SyncTable}
 use Rattle.tables.specs.Rows.{Counted}
 use Rattle.tables.specs.SyncTable.{SizedSyncs, sync_map}
-use Rattle.tables.specs.Laws.Counts.{counted_facts, facts_counted}
-use Rattle.tables.specs.Laws.SyncTables.{syncs_few, few_syncs}
+use Rattle.tables.proofs.Laws.Counts.{counted_facts, facts_counted}
+use Rattle.tables.proofs.Laws.SyncTables.{syncs_few, few_syncs}
 use Rattle.range.specs.Form.{ok_length}
 use Rattle.journal.specs.Asked.{blocks_asked, asked_blocks}
 use Rattle.lengths.specs.Entries.{part_is}
@@ -60,11 +60,11 @@ module _ (g : Geometry) (l : Lent) where
         rlens_lent = r.lens_lent;
       }
 
-  pending_lent : MachineLent g l → PendingLent store_limits (length l.bytes) (length l.lens)
-  pending_lent m = record { few = omega arith; small = omega arith; bytes_lent = m.bytes_lent; lens_lent = m.lens_lent }
+  pending_lent_is : MachineLent g l → PendingLent store_limits (length l.bytes) (length l.lens)
+  pending_lent_is m = record { few = omega arith; small = omega arith; bytes_lent = m.bytes_lent; lens_lent = m.lens_lent }
 
-  replay_lent : MachineLent g l → ReplayLent (num_journal_blocks g) (length l.rbytes) (length l.rlens)
-  replay_lent m =
+  replay_lent_is : MachineLent g l → ReplayLent (num_journal_blocks g) (length l.rbytes) (length l.rlens)
+  replay_lent_is m =
       record {
         some_block = m.geometry.some_block;
         at_most_blocks = m.geometry.at_most_blocks;
@@ -76,8 +76,8 @@ module _ (g : Geometry) (l : Lent) where
   unfolding ask_lent
   met_lent m =
       and_then_both _ _ (asked_blocks g l.pieces (record { geometry = m.geometry; size = m.pieces_lent }))
-      (and_then_both _ _ (asked_lent store_limits (length l.bytes) (length l.lens) (pending_lent m))
-      (asked_replay_lent (num_journal_blocks g) (length l.rbytes) (length l.rlens) (replay_lent m)))
+      (and_then_both _ _ (asked_lent store_limits (length l.bytes) (length l.lens) (pending_lent_is m))
+      (asked_replay_lent (num_journal_blocks g) (length l.rbytes) (length l.rlens) (replay_lent_is m)))
 
   -- what pending and replay memory hold
   module _ (e : Entries) where
@@ -112,10 +112,10 @@ module _ (g : Geometry) (l : Lent) where
         and_then_both _ _
         (asked_frozen store_limits (memory l.bytes l.lens e.pending) e.frozen
         (asked_pending store_limits (memory l.bytes l.lens e.pending)
-        (record { lent = pending_lent m; held = record { order = omega arith; there = ph.there; each = ph.each; fit = ph.small } })) f)
+        (record { lent = pending_lent_is m; held = record { order = omega arith; there = ph.there; each = ph.each; fit = ph.small } })) f)
         (asked_replay (num_journal_blocks g) (memory l.rbytes l.rlens e.replay) e.taken
         (record {
-          lent = replay_lent m;
+          lent = replay_lent_is m;
           left =
               record {
                 behind = omega (arith, rh.fit);
@@ -171,7 +171,7 @@ module _ (g : Geometry) (l : Lent) (m : Machine) where
   held k = by_kind {A = ℕ} k 0 0 (ask_entries g store_limits l.bytes l.lens l.rbytes l.rlens m.ready.entries)
 
   abbrev form : Kind → Type 0
-  form k = by_kind k (Unit {0}) (m.other.which_superblock ≤ 1) (ReadyForm (ready_lent l) m.ready)
+  form k = by_kind k (Unit {0}) (m.other.whichSuperblock ≤ 1) (ReadyForm (ready_lent l) m.ready)
 
   kind_form : (k : Kind) → ok k ≡ true → held k ≡ 0 → form k
   kind_form kind.LoadingSuperblock e q = tt
@@ -224,9 +224,9 @@ module _ (g : Geometry) (l : Lent) (m : Machine) where
 -- Questions 1 and 2, both ways
 
 -- the parts of a yes
-pub machine_lent : (g : Geometry) (l : Lent) (m : Machine) → ask_machine g l m ≡ 0 → MachineLent g l
+pub machine_lent_is : (g : Geometry) (l : Lent) (m : Machine) → ask_machine g l m ≡ 0 → MachineLent g l
 unfolding ask_machine
-machine_lent g l m e = lent_met g l (and_then_left _ _ e)
+machine_lent_is g l m e = lent_met g l (and_then_left _ _ e)
 
 -- the record of its kind
 abbrev pub KindOk : Geometry → Machine → Type 0

@@ -1,7 +1,7 @@
 -- The range that a journal write sends stands at the front of the lent buffer: its blocks there are the format's blocks of the entries.
 use Rattle.std.specs.Prelude.{ℕ, ◌-◌, ◌*◌, ◌≤◌, ◌<◌, ◌≡◌, refl, List, length}
 use Rattle.std.proofs.Common.{sym, ◌∙◌, ap, subst, arith, drop_of_length-le, take_all}
-use Rattle.laws.specs.Around.{spliceAround}
+use Rattle.laws.specs.Around.{splice_around}
 use Rattle.laws.specs.Splice.{splice, splice_none}
 use Rattle.range.specs.Form.{length_width, block_size, blocks, encode, used, blocks_for}
 use Rattle.range.specs.Blocks.{blocks_some, length_encode_at}
@@ -35,8 +35,8 @@ use Rattle.refine.specs.Machine.MachineView.{ready_lent, syncs_of, machine_of, M
 use Rattle.refine.specs.Machine.MachineWork.{bodies_found, work_of, work_seen, work_form}
 
 -- a write at the front that fits goes round nothing
-front_splice : (d s : List ℕ) → length s ≤ length d → spliceAround d 0 s ≡ splice d 0 s
-unfolding spliceAround
+front_splice : (d s : List ℕ) → length s ≤ length d → splice_around d 0 s ≡ splice d 0 s
+unfolding splice_around
 front_splice d s h =
     (λ i. splice (splice d 0 (take_all (length d - 0) s (omega arith) i)) 0 (drop_of_length-le s rest i)) ∙ sym (splice_none (splice d 0 s) 0)
   where

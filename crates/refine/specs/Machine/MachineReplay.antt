@@ -14,7 +14,7 @@ use Rattle.lengths.specs.Entries.{part_is}
 use Rattle.memory.specs.Given.{Memory, memory, count_of, ask_given, given_asked}
 use Rattle.memory.specs.Replay.{is_next, next_of_replay}
 use Rattle.memory.specs.ReplayLaws.{Left}
-use Rattle.memory.specs.ReplayAfter.{next_is, is_next}
+use Rattle.memory.specs.ReplayAfter.{next_is, is_next_is}
 use Rattle.ready.specs.State.{replay_left}
 use Rattle.codec.specs.Codec.{JournalEntry}
 use Rattle.codec.specs.Format.{format}
@@ -25,7 +25,7 @@ use Rattle.source.specs.Limits.{limits, StepLimits}
 use Rattle.source.specs.Meets.{MachineMeets}
 use Rattle.source.specs.Departures.{Source}
 use Rattle.source.specs.Within.{MachineAllowed, MachineWithin}
-use Rattle.source.specs.Laws.Cases.{by_ready}
+use Rattle.source.proofs.Laws.Cases.{by_ready}
 use Rattle.machine.specs.declared.Kind.TheVariants as kind
 use Rattle.machine.specs.declared.Machine.{Machine}
 use Rattle.machine.specs.declared.MachineAnswer.TheVariants as answer
@@ -105,7 +105,7 @@ module _ (g : Geometry) (l : Lent) (m : Machine) (brought sizes : List ℕ) (k :
           let q = entries_asked brought sizes k held step.few step.fit in
           let d = R.replay_complete (ready_lent l) (syncs_of m) m.ready f.replay brought sizes k held r dop c in (
             and_then_both _ _ (asks_work m e)
-                (and_then_both _ _ q (ask_holds 6 _ (is_next replays m.ready.entries.taken given (left_held e form meets) (given_asked given q) d.0 d.1))),
+                (and_then_both _ _ q (ask_holds 6 _ (is_next_is replays m.ready.entries.taken given (left_held e form meets) (given_asked given q) d.0 d.1))),
             work_seen g l next (next_kind e) ∙ ap Variables.Ready d.2,
             d.3,
           )

@@ -35,9 +35,9 @@ abbrev pub read_of : Option Superblock → SuperblockRead
 read_of none = read.Damaged
 read_of (some superblock) = read.Whole superblock
 
-pub read_in : (o : Option Superblock) → superblock_in (read_of o) ≡ o
-read_in none = refl
-read_in (some superblock) = refl
+pub read_in_is : (o : Option Superblock) → superblock_in (read_of o) ≡ o
+read_in_is none = refl
+read_in_is (some superblock) = refl
 
 module _ (g : Geometry) (l : Lent) (m : Machine) where
   module _ (which id : ℕ) (r : SuperblockRead) where
@@ -109,7 +109,7 @@ module _ (g : Geometry) (l : Lent) (m : Machine) where
   names_page_in_superblock_resp which s' dop h =
       seen_superblocks (λ m. (id : ℕ) × (r : SuperblockRead) × (dop ≡ operation_of (op.RespReadSuperblock id which r) [])) m g l
       (λ s. M.PageInSuperblockRespClauses g s s' dop (slot_of which)) h
-      (λ c. (c.id, read_of c.superblock, c.op ∙ ap (D.RespReadSuperblockOp c.id (slot_of which)) (sym (read_in c.superblock))))
+      (λ c. (c.id, read_of c.superblock, c.op ∙ ap (D.RespReadSuperblockOp c.id (slot_of which)) (sym (read_in_is c.superblock))))
 
   module _ (which : ℕ) (z : SizedMachine m) where
     pub page_in_superblock_resp_complete : MachineLent g l → MachineForm l m → which ≤ 1 → (s' : Variables) (dop : D.DiskOp)

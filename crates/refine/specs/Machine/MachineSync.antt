@@ -5,7 +5,7 @@ use Rattle.std.proofs.Math.Path.{sym, ap, subst}
 use Rattle.std.proofs.Common.{◌∙◌, arith}
 use Rattle.std.proofs.Math.Option.{none, some, map}
 use borrow.Author.Tests.{leb-true, eqb-true, eq-eqb}
-use Rattle.laws.specs.Choice.{and_then_right, and_then_both, ask_yes, ask_holds, also_left, also_right, ruin, split-eq}
+use Rattle.laws.specs.Choice.{and_then_right, and_then_both, ask_yes, ask_holds, also_left, also_right, ruin, split_eq}
 use Rattle.laws.specs.Maps.{map_of_none}
 use Rattle.laws.specs.Sets.{Ids, Map, bind, unbind, keys, is_key, ids_of, AtMost}
 use Rattle.layout.specs.declared.Geometry.{Geometry}
@@ -14,8 +14,8 @@ use Rattle.superblock.specs.declared.DiskOp.TheVariants as op
 use Rattle.tables.specs.declared.SyncTable.{SyncTable}
 use Rattle.tables.specs.SyncTable.{sync_map, state_map, or_zero, ok_state, SizedSyncs, added_sync, removed_sync}
 use Rattle.tables.specs.Rows.{place_of}
-use Rattle.tables.specs.Laws.Counts.{add_asked}
-use Rattle.tables.specs.Laws.SyncTables.{known_state, state_known, syncs_keys, syncs_added, syncs_left, few_syncs_add}
+use Rattle.tables.proofs.Laws.Counts.{add_asked}
+use Rattle.tables.proofs.Laws.SyncTables.{known_state, state_known, syncs_keys, syncs_added, syncs_left, few_syncs_add}
 use Rattle.codec.specs.Format.{format}
 use Rattle.source.specs.JournalDisk as D
 use Rattle.source.specs.JournalCache as M
@@ -33,7 +33,7 @@ use Rattle.machine.specs.Whole.{push_sync_req, pop_sync_req, no_op}
 use Rattle.refine.specs.Machine.MachineView.{state_of, syncs_of, machine_of, operation_of, SizedMachine, MachineLent, SyncForm, MachineForm}
 use Rattle.refine.specs.Machine.MachineMeets.{machine_met, met_machine, form_counted}
 use Rattle.refine.specs.Machine.MachineKinds.{by_kind_is}
-use Rattle.refine.specs.Machine.MachineCalls.{taken_by, answered_by, sound_same, complete_same}
+use Rattle.refine.specs.Machine.MachineCalls.{taken_by, answered_by_is, sound_same, complete_same}
 
 -- the sync requests of any state: told, put, and few where the counts are
 requests_put : (x : Map SyncReqStatus) (s : Variables) → sync_reqs_of (with_sync_reqs x s) ≡ x
@@ -52,10 +52,10 @@ unfolding ok_state
 state_one n e h =
     let low = leb-true 1 n (also_left (leb 1 n) (leb n 3) e) in
     let high = leb-true n 3 (also_right (leb 1 n) (leb n 3) e) in
-    split-eq n 3
+    split_eq n 3
     (λ q. let p : state_of 3 ≡ State1 = sym (ap state_of q) ∙ h in ruin (cc))
     (λ three.
-    split-eq n 2
+    split_eq n 2
     (λ q. let p : state_of 2 ≡ State1 = sym (ap state_of q) ∙ h in ruin (cc))
     (λ two. omega arith))
 
@@ -160,12 +160,12 @@ module _ (g : Geometry) (l : Lent) (m : Machine) (z : SizedMachine m) where
       → MachineAllowed g format limits (machine_of g l m) (machine_of g l (no_op g l m).machine) (operation_of o []) (Source NoOpStep)
   no_op_sound o e =
       taken_by g l m (ask_machine g l m) op.NoDiskOp m l l (λ k. refl) [] (Source NoOpStep) o e
-      (λ k. (machine_met g l m z k, record { source = record { op = M.NoOpOp.no_op refl; next = refl }; unawaited = λ w. w }))
+      (λ k. (machine_met g l m z k, record { source = record { op = M.NoOpOp.no_op_is refl; next = refl }; unawaited = λ w. w }))
 
   pub no_op_complete : MachineLent g l → MachineForm l m → (s' : Variables)
       → MachineAllowed g format limits (machine_of g l m) s' (operation_of op.NoDiskOp []) (Source NoOpStep)
       → ((no_op g l m).answer ≡ answer.Next op.NoDiskOp) × (machine_of g l (no_op g l m).machine ≡ s')
   no_op_complete t form s' a =
-      answered_by g l m (ask_machine g l m) op.NoDiskOp m l l (λ k. refl) s'
+      answered_by_is g l m (ask_machine g l m) op.NoDiskOp m l l (λ k. refl) s'
       (met_machine g l m z (record { lent = t; form = form; meets = a.meets }))
       (sym a.step.source.next)

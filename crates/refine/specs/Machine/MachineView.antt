@@ -80,7 +80,7 @@ pub record SyncForm (t : SyncTable) : Type 0 where
   pub states : valid_states t ≡ true
 
 abbrev pub KindForm : Lent → Machine → Type 0
-KindForm l m = by_kind m.kind (Unit {0}) (m.other.which_superblock ≤ 1) (ReadyForm (ready_lent l) m.ready)
+KindForm l m = by_kind m.kind (Unit {0}) (m.other.whichSuperblock ≤ 1) (ReadyForm (ready_lent l) m.ready)
 
 pub record MachineForm (l : Lent) (m : Machine) : Type 0 where
   pub sync : SyncForm m.sync

@@ -2,11 +2,11 @@
 -- sync requests, moved on.
 use Rattle.std.specs.Prelude.{ℕ, ◌≤◌, ◌≡◌, refl}
 use Rattle.std.proofs.Common.{sym, ap, subst, ne_eqb}
-use Rattle.laws.specs.Choice.{ruin, split-eq}
+use Rattle.laws.specs.Choice.{ruin, split_eq}
 use Rattle.layout.specs.declared.Geometry.{Geometry}
 use Rattle.tables.specs.declared.SyncTable.{SyncTable}
 use Rattle.tables.specs.SyncTable.{sync_map, moved}
-use Rattle.tables.specs.Laws.SyncTables.{syncs_moved}
+use Rattle.tables.proofs.Laws.SyncTables.{syncs_moved}
 use Rattle.source.specs.JournalCache.{Variables, ReadyVariables, IsReady, status3to2, status2to1, sync_reqs3to2, sync_reqs2to1}
 use Rattle.machine.specs.declared.Kind.{Kind}
 use Rattle.machine.specs.declared.Kind.TheVariants as kind
@@ -56,7 +56,7 @@ module _ (g : Geometry) (l : Lent) (m : Machine) where
   work_seen e = ap (λ (k : Kind). machine_of g l (of_kind m k)) e
 
   pub work_form : m.kind ≡ kind.Ready → MachineForm l m → ReadyForm (ready_lent l) m.ready
-  work_form e f = subst (λ (k : Kind). by_kind k (Unit {0}) (m.other.which_superblock ≤ 1) (ReadyForm (ready_lent l) m.ready)) e f.kind
+  work_form e f = subst (λ (k : Kind). by_kind k (Unit {0}) (m.other.whichSuperblock ≤ 1) (ReadyForm (ready_lent l) m.ready)) e f.kind
 
   -- a predicate that names this kind, there and back
   pub work_in : (P : ReadyVariables → Type 0) → m.kind ≡ kind.Ready → P (work_of l m) → IsReady (machine_of g l m) P
@@ -82,11 +82,11 @@ bodies_found l m e =
 -- sync requests that move on
 moved_3to2 : (n : ℕ) → state_of (moved 3 2 n) ≡ status3to2 (state_of n)
 unfolding moved
-moved_3to2 n = split-eq n 3 (λ e. simp e) (λ e. split-eq n 2 (λ h. simp h) (λ h. simp (ne_eqb n 3 e, ne_eqb n 2 h)))
+moved_3to2 n = split_eq n 3 (λ e. simp e) (λ e. split_eq n 2 (λ h. simp h) (λ h. simp (ne_eqb n 3 e, ne_eqb n 2 h)))
 
 moved_2to1 : (n : ℕ) → state_of (moved 2 1 n) ≡ status2to1 (state_of n)
 unfolding moved
-moved_2to1 n = split-eq n 3 (λ e. simp e) (λ e. split-eq n 2 (λ h. simp h) (λ h. simp (ne_eqb n 3 e, ne_eqb n 2 h)))
+moved_2to1 n = split_eq n 3 (λ e. simp e) (λ e. split_eq n 2 (λ h. simp h) (λ h. simp (ne_eqb n 3 e, ne_eqb n 2 h)))
 
 pub syncs_3to2 : (t : SyncTable) → sync_map state_of (syncs3to2 t) ≡ sync_reqs3to2 (sync_map state_of t)
 syncs_3to2 t = syncs_moved t state_of 3 2 status3to2 moved_3to2

@@ -3,7 +3,7 @@
 use Rattle.std.specs.Prelude.{ℕ, ◌+◌, ◌*◌, Bool, true, false, cond, ◌≡◌, refl, List, [], length}
 use Rattle.std.proofs.Math.Path.{sym, ap, subst}
 use Rattle.std.proofs.Common.{◌∙◌}
-use Rattle.laws.specs.Choice.{and_then_left, and_then_right, and_then_both, unless-done}
+use Rattle.laws.specs.Choice.{and_then_left, and_then_right, and_then_both, unless_done}
 use Rattle.laws.specs.Sets.{Map}
 use Rattle.layout.specs.declared.Geometry.{Geometry}
 use Rattle.layout.specs.Geometry.{num_journal_blocks}
@@ -28,7 +28,7 @@ use Rattle.source.specs.Limits.{limits, MachineCounts}
 use Rattle.source.specs.Meets.{MachineMeets}
 use Rattle.source.specs.Departures.{OneRange, WriteBackJournalReq⁺, Source}
 use Rattle.source.specs.Within.{MachineAllowed, MachineWithin}
-use Rattle.source.specs.Laws.Format.{limits_fit}
+use Rattle.source.proofs.Laws.Format.{limits_fit}
 use Rattle.machine.specs.declared.Kind.TheVariants as kind
 use Rattle.machine.specs.declared.Machine.{Machine}
 use Rattle.machine.specs.declared.MachineAnswer.TheVariants as answer
@@ -42,7 +42,7 @@ use Rattle.refine.specs.Machine.ReadyJournal as R
 use Rattle.refine.specs.Machine.ReadyJournal.{moved_lent, written_sync}
 use Rattle.refine.specs.Machine.MachineView.{ready_lent, state_of, syncs_of, machine_of, operation_of, SizedMachine, MachineLent, MachineForm, MachineMet}
 use Rattle.refine.specs.Machine.MachineMeets.{machine_met, met_machine}
-use Rattle.refine.specs.Machine.MachineCalls.{taken_by, answered_by}
+use Rattle.refine.specs.Machine.MachineCalls.{taken_by, answered_by_is}
 use Rattle.refine.specs.Machine.MachineWork.{bodies_found, work_of, work_asked, asks_work, work_seen, work_form, work_in, work_out, work_step, syncs_3to2}
 use Rattle.refine.specs.Machine.MachineRange.{range_sent}
 
@@ -83,14 +83,14 @@ module _ (g : Geometry) (l : Lent) (m : Machine) where
 
     written_view : Variables.Ready
         (ready_of (moved_lent (ready_lent l) (sent m.ready.entries held) (left m.ready.entries held)) (written_sync m.ready.entries (syncs_of m))
-        (write_back_journal_req_next m.ready id1 id2 (m.ready.written_journal_len + sent_blocks m.ready held)))
+        (write_back_journal_req_next m.ready id1 id2 (m.ready.writtenJournalLen + sent_blocks m.ready held)))
         ≡ Variables.Ready (work_of moved next)
     unfolding written_machine
     written_view =
         ap
         (λ (sync : Map SyncReqStatus).
         Variables.Ready
-        (ready_of (ready_lent moved) sync (write_back_journal_req_next m.ready id1 id2 (m.ready.written_journal_len + sent_blocks m.ready held))))
+        (ready_of (ready_lent moved) sync (write_back_journal_req_next m.ready id1 id2 (m.ready.writtenJournalLen + sent_blocks m.ready held))))
         (sym (sent_syncs (none_frozen m.ready.entries) m.sync))
 
     pub write_clauses : MachineMet g l m → (out : List ℕ) → length out ≡ num_journal_blocks g * block_size → ask_write_back_journal_req_step g m id1 id2 held ≡ 0
@@ -154,8 +154,8 @@ module _ (g : Geometry) (l : Lent) (m : Machine) (z : SizedMachine m) (out : Lis
     lent_written q =
         λ i.
         record {
-          bytes = unless-done (ask_write g l m id1 id2 out) l.bytes (moved g l m).bytes q i;
-          lens = unless-done (ask_write g l m id1 id2 out) l.lens (moved g l m).lens q i;
+          bytes = unless_done (ask_write g l m id1 id2 out) l.bytes (moved g l m).bytes q i;
+          lens = unless_done (ask_write g l m id1 id2 out) l.lens (moved g l m).lens q i;
           pieces = l.pieces;
           rbytes = l.rbytes;
           rlens = l.rlens;
@@ -169,7 +169,7 @@ module _ (g : Geometry) (l : Lent) (m : Machine) (z : SizedMachine m) (out : Lis
         → written_range ≡ blocks_in (sent_blocks m.ready (bodies_of l.lens m)) (sent_range m (bodies_of l.lens m) l.bytes l.lens out 0)
     range_written q =
         ap (blocks_in (sent_blocks m.ready (bodies_of l.lens m)))
-        (unless-done (ask_write g l m id1 id2 out) out (sent_range m (bodies_of l.lens m) l.bytes l.lens out 0) q)
+        (unless_done (ask_write g l m id1 id2 out) out (sent_range m (bodies_of l.lens m) l.bytes l.lens out 0) q)
 
     clauses_taken : ask_write g l m id1 id2 out ≡ 0
         → MachineMet g l m
@@ -217,7 +217,7 @@ module _ (g : Geometry) (l : Lent) (m : Machine) (z : SizedMachine m) (out : Lis
       (and_then_both _ _ (asked_blocks g out (record { geometry = t.geometry; size = size })) (met_machine g l m z (record { lent = t; form = form; meets = a.meets })))
       c.2 in
       let r =
-      answered_by g l m (ask_write g l m id1 id2 out) (write_back_journal_req_op g m id1 id2 (bodies_of l.lens m)) (next g l m id1 id2) (written_lent id1 id2) (moved g l m) (lent_written id1 id2)
+      answered_by_is g l m (ask_write g l m id1 id2 out) (write_back_journal_req_op g m id1 id2 (bodies_of l.lens m)) (next g l m id1 id2) (written_lent id1 id2) (moved g l m) (lent_written id1 id2)
       s' q c.3 in
       let range = c.5 ∙ sym (range_written id1 id2 q) in
       (id1, id2, r.0, c.4 ∙ ap (operation_of (write_back_journal_req_op g m id1 id2 (bodies_of l.lens m))) range, range, r.1)

@@ -2,7 +2,7 @@
 use Rattle.std.specs.Prelude.{ℕ, true, ◌≡◌, refl, [], ◌⊎◌}
 use Rattle.std.proofs.Math.Path.{sym, ap}
 use Rattle.std.proofs.Common.{◌∙◌, subst, inl, inr, ⊎_elim}
-use Rattle.laws.specs.Choice.{split-bool, not_so, true-false}
+use Rattle.laws.specs.Choice.{split_bool, not_so, true_false}
 use Rattle.layout.specs.declared.Geometry.{Geometry}
 use Rattle.superblock.specs.declared.DiskOp.{DiskOp}
 use Rattle.tables.specs.IdTable.{id_set}
@@ -16,7 +16,7 @@ use Rattle.source.specs.Limits.{limits}
 use Rattle.source.specs.Meets.{MachineMeets}
 use Rattle.source.specs.Departures.{NoOp⁺, Source}
 use Rattle.source.specs.Within.{MachineAllowed}
-use Rattle.source.specs.Laws.Cases.{by_ready}
+use Rattle.source.proofs.Laws.Cases.{by_ready}
 use Rattle.machine.specs.declared.Kind.TheVariants as kind
 use Rattle.machine.specs.declared.Machine.{Machine}
 use Rattle.machine.specs.declared.MachineAnswer.TheVariants as answer
@@ -30,7 +30,7 @@ use Rattle.refine.specs.Machine.ReadyView.{ready_of}
 use Rattle.refine.specs.Machine.ReadyJournal as R
 use Rattle.refine.specs.Machine.MachineView.{ready_lent, syncs_of, machine_of, operation_of, SizedMachine, MachineLent, MachineForm}
 use Rattle.refine.specs.Machine.MachineMeets.{machine_met, met_machine}
-use Rattle.refine.specs.Machine.MachineCalls.{taken_by, answered_by}
+use Rattle.refine.specs.Machine.MachineCalls.{taken_by, answered_by_is}
 use Rattle.refine.specs.Machine.MachineWork.{by_work, work_taken, work_kept, work_of, work_seen, work_form, work_in, work_out}
 
 module _ (g : Geometry) (l : Lent) (m : Machine) (form : MachineForm l m) (id : ℕ) where
@@ -62,16 +62,16 @@ module _ (g : Geometry) (l : Lent) (m : Machine) (form : MachineForm l m) (id : 
       (λ n. ap (machine_of g l) (work_kept m taken n))
 
   no_op_by : (AwaitsWrite → ⊥) → NoOp⁺ (machine_of g l m) (machine_of g l (write_back_journal_resp_machine m id)) dop
-  no_op_by n = record { source = record { op = M.NoOpOp.journal_written id refl n; next = unawaited_same n }; unawaited = n }
+  no_op_by n = record { source = record { op = M.NoOpOp.journal_written_is id refl n; next = unawaited_same n }; unawaited = n }
 
   pub journal_resp_clauses : M.WriteBackJournalResp (machine_of g l m) (machine_of g l (write_back_journal_resp_machine m id)) dop
       ⊎ NoOp⁺ (machine_of g l m) (machine_of g l (write_back_journal_resp_machine m id)) dop
   journal_resp_clauses =
       by_work m
       (λ k.
-      split-bool (id_set m.ready.writes id)
+      split_bool (id_set m.ready.writes id)
       (λ e. inl (awaited k e))
-      (λ e. inr (no_op_by (λ w. true-false (sym (work_out g l m (λ s. s.outstanding_journal_writes id ≡ true) w).1 ∙ e)))))
+      (λ e. inr (no_op_by (λ w. true_false (sym (work_out g l m (λ s. s.outstanding_journal_writes id ≡ true) w).1 ∙ e)))))
       (λ n. inr (no_op_by (λ w. n (work_out g l m (λ s. s.outstanding_journal_writes id ≡ true) w).0)))
     where
       awaited : m.kind ≡ kind.Ready → id_set m.ready.writes id ≡ true → M.WriteBackJournalResp (machine_of g l m) (machine_of g l (write_back_journal_resp_machine m id)) dop
@@ -112,7 +112,7 @@ module _ (g : Geometry) (l : Lent) (m : Machine) (z : SizedMachine m) (id : ℕ)
     taken_to : MachineMeets g limits (machine_of g l m) → machine_of g l (write_back_journal_resp_machine m id) ≡ s'
         → ((write_back_journal_resp g l m id).answer ≡ answer.Next (write_back_journal_resp_op id)) × (machine_of g l (write_back_journal_resp g l m id).machine ≡ s')
     taken_to meets e =
-        answered_by g l m (ask_machine g l m) (write_back_journal_resp_op id) (write_back_journal_resp_machine m id) l l (λ k. refl) s'
+        answered_by_is g l m (ask_machine g l m) (write_back_journal_resp_op id) (write_back_journal_resp_machine m id) l l (λ k. refl) s'
         (met_machine g l m z (record { lent = t; form = form; meets = meets }))
         e
 

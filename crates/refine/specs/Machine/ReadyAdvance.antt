@@ -60,9 +60,9 @@ module _ (l : ReadyLent) (sync : Map SyncReqStatus) (r : Ready) (p : PendingForm
   appended_memory =
       ap (drop r.entries.frozen) appended_view ∙ drop-append-le r.entries.frozen (view l.bytes l.lens n) es old_long
 
-  advance_next : ready_of l' sync (advance_next r (n + k)) ≡ to_in_memory_journal (memory_of l r.entries ++ es) (ready_of l sync r)
+  advance_next_is : ready_of l' sync (advance_next r (n + k)) ≡ to_in_memory_journal (memory_of l r.entries ++ es) (ready_of l sync r)
   unfolding advance_next
-  advance_next = λ i. to_in_memory_journal_frozen (appended_frozen i) (to_in_memory_journal (appended_memory i) (ready_of l sync r))
+  advance_next_is = λ i. to_in_memory_journal_frozen (appended_frozen i) (to_in_memory_journal (appended_memory i) (ready_of l sync r))
 
   pub advance_sound : (limits : Limits) → ReplayForm l r.entries → ask_advance limits r held (count k (total sizes k)) ≡ 0
       → AdvanceClauses (ready_of l sync r) (M.Variables.Ready (ready_of l' sync (advance_next r (n + k)))) NoDiskOp es
@@ -70,7 +70,7 @@ module _ (l : ReadyLent) (sync : Map SyncReqStatus) (r : Ready) (p : PendingForm
       record {
         op = refl;
         replayed = all_replayed l r.entries q (advance_asked limits r held (count k (total sizes k)) e).all_replayed;
-        next = ap M.Variables.Ready advance_next;
+        next = ap M.Variables.Ready advance_next_is;
       }
 
   -- the counts of the next state are within the limits
@@ -93,6 +93,6 @@ module _ (l : ReadyLent) (sync : Map SyncReqStatus) (r : Ready) (p : PendingForm
                 ap sum (lengths_view bodies sizes k given.fit),
               );
         }),
-    ap M.Variables.Ready advance_next ∙ sym h.next,
+    ap M.Variables.Ready advance_next_is ∙ sym h.next,
     h.op,
   )

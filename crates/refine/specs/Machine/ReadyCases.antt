@@ -2,15 +2,15 @@
 use Rattle.std.specs.Prelude.{ℕ, ◌≤◌, true, false, cond, not, ◌≡◌, refl, ◌↔◌, eqb}
 use Rattle.std.proofs.Common.{sym, ◌∙◌, ap, arith, eqb-true, eq-eqb}
 use Rattle.std.proofs.Math.Option.{Option, none, some, some-injective}
-use Rattle.laws.specs.Choice.{ruin, split-eq, not_so, true-false}
-use Rattle.laws.specs.Sets.{none-some}
+use Rattle.laws.specs.Choice.{ruin, split_eq, not_so, true_false}
+use Rattle.laws.specs.Sets.{none_some}
 use Rattle.layout.specs.declared.Location.{Location}
 use Rattle.ready.specs.declared.MaybeLocation.{MaybeLocation}
 use Rattle.ready.specs.declared.MaybeLocation.TheVariants.{NoLocation, Received}
 use Rattle.ready.specs.declared.Commit.{Commit}
 use Rattle.ready.specs.declared.Commit.TheVariants as commit
 use Rattle.ready.specs.State.{is_received, is_location, no_commit, awaits_id}
-use Rattle.ready.specs.Laws.Facts.{received_is, is_received}
+use Rattle.ready.specs.Laws.Facts.{received_is, is_received_is}
 use Rattle.source.specs.JournalDisk.{ReqId}
 use Rattle.source.specs.JournalCache.{CommitNone, Some}
 use Rattle.refine.specs.Machine.ReadyView.{location_of, id_of, maybe_id, slot_of, write_of, status_of, new_of}
@@ -25,33 +25,33 @@ received_seen NoLocation e = ruin (cc)
 received_seen (Received loc) e = (loc, refl)
 
 pub seen_received : (m : MaybeLocation) → Some (location_of m) → is_received m ≡ true
-seen_received NoLocation s = none-some refl s.1
+seen_received NoLocation s = none_some refl s.1
 seen_received (Received loc) s = refl
 
 pub none_seen : (m : MaybeLocation) → is_received m ≡ false → location_of m ≡ none
 none_seen NoLocation e = refl
-none_seen (Received loc) e = true-false e
+none_seen (Received loc) e = true_false e
 
 pub seen_none : (m : MaybeLocation) → location_of m ≡ none → is_received m ≡ false
 seen_none NoLocation e = refl
 seen_none (Received loc) e = ruin (cc)
 
-pub other_seen : (m : MaybeLocation) (loc : Location) → is_location m loc ≡ false → location_of m ≡ some loc → ⊥
-other_seen m loc e h = true-false (sym (is_received m loc (location_seen m loc h)) ∙ e)
+pub other_seen_is : (m : MaybeLocation) (loc : Location) → is_location m loc ≡ false → location_of m ≡ some loc → ⊥
+other_seen_is m loc e h = true_false (sym (is_received_is m loc (location_seen m loc h)) ∙ e)
 
 pub seen_other : (m : MaybeLocation) (loc : Location) → (location_of m ≡ some loc → ⊥) → is_location m loc ≡ false
 seen_other m loc f = not_so (is_location m loc) (λ e. f (ap location_of (received_is m loc e)))
 
 -- a commit in flight: its id, its status and its superblock go together by the type
 pub commit_new : (c : Commit) → Some (write_of c) ↔ Some (new_of c)
-commit_new commit.CommitNone = (λ s. none-some refl s.1, λ s. none-some refl s.1)
+commit_new commit.CommitNone = (λ s. none_some refl s.1, λ s. none_some refl s.1)
 commit_new (commit.CommitAdvanceLog id new) = (λ s. (new, refl), λ s. (id, refl))
 commit_new (commit.CommitAdvanceLocation id new) = (λ s. (new, refl), λ s. (id, refl))
 
-pub commit_status : (c : Commit) → (write_of c ≡ none) ↔ (status_of c ≡ CommitNone)
-commit_status commit.CommitNone = (λ e. refl, λ e. refl)
-commit_status (commit.CommitAdvanceLog id new) = (λ e. ruin (cc), λ e. ruin (cc))
-commit_status (commit.CommitAdvanceLocation id new) = (λ e. ruin (cc), λ e. ruin (cc))
+pub commit_status_is : (c : Commit) → (write_of c ≡ none) ↔ (status_of c ≡ CommitNone)
+commit_status_is commit.CommitNone = (λ e. refl, λ e. refl)
+commit_status_is (commit.CommitAdvanceLog id new) = (λ e. ruin (cc), λ e. ruin (cc))
+commit_status_is (commit.CommitAdvanceLocation id new) = (λ e. ruin (cc), λ e. ruin (cc))
 
 pub none_flight : (c : Commit) → no_commit c ≡ true → write_of c ≡ none
 none_flight commit.CommitNone e = refl
@@ -66,7 +66,7 @@ flight_none (commit.CommitAdvanceLocation id new) e = ruin (cc)
 -- the other slot
 pub slot_other : (which : ℕ) → which ≤ 1 → slot_of (cond (eqb which 0) 1 0) ≡ not (slot_of which)
 slot_other which h =
-    split-eq which 0
+    split_eq which 0
     (λ z. simp z)
     (λ n. let o : which ≡ 1 = omega arith in simp o)
 
@@ -82,6 +82,6 @@ awaits_seen (commit.CommitAdvanceLog k new) id e = ap some (eqb-true k id e)
 awaits_seen (commit.CommitAdvanceLocation k new) id e = ap some (eqb-true k id e)
 
 pub seen_awaits : (c : Commit) (id : ℕ) → write_of c ≡ some id → awaits_id c id ≡ true
-seen_awaits commit.CommitNone id e = none-some refl e
+seen_awaits commit.CommitNone id e = none_some refl e
 seen_awaits (commit.CommitAdvanceLog k new) id e = eq-eqb k id (some-injective k id e)
 seen_awaits (commit.CommitAdvanceLocation k new) id e = eq-eqb k id (some-injective k id e)

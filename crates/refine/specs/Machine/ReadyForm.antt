@@ -5,10 +5,10 @@ use Rattle.std.proofs.Common.{sym, ◌∙◌, ap, arith, length-drop, take-appen
 use Rattle.laws.specs.Choice.{also, also_left, also_right, also_both}
 use Rattle.laws.specs.Fold.{sum, every, sum_append, every_append}
 use Rattle.laws.specs.Cut.{lengths, lengths_append}
-use Rattle.laws.specs.Sets.{no_ids, Distinct}
+use Rattle.laws.specs.Sets.{empty_ids, Distinct}
 use Rattle.tables.specs.declared.IdTable.{IdTable}
 use Rattle.tables.specs.IdTable.{id_set}
-use Rattle.tables.specs.Laws.IdTables.{none_ids}
+use Rattle.tables.proofs.Laws.IdTables.{none_ids}
 use Rattle.range.specs.Form.{ok_length}
 use Rattle.range.specs.Memory.{view, total, view_none, length_view, lengths_view, view_take}
 use Rattle.ready.specs.declared.Entries.{Entries}
@@ -40,13 +40,13 @@ pub record TableForm (t : IdTable) : Type 0 where
   pub differ : Distinct (take t.count t.ids)
 
 pub record ReadyForm (l : ReadyLent) (r : Ready) : Type 0 where
-  pub which_in : r.which_superblock ≤ 1
+  pub which_in : r.whichSuperblock ≤ 1
   pub pending : PendingForm l r.entries
   pub replay : ReplayForm l r.entries
   pub writes : TableForm r.writes
 
 -- no id is in use where the set is empty
-pub table_none : (t : IdTable) → TableForm t → id_set t ≡ no_ids → t.count ≡ 0
+pub table_none : (t : IdTable) → TableForm t → id_set t ≡ empty_ids → t.count ≡ 0
 table_none t f e = none_ids t t.count (record { few = omega arith; in_array = f.in_array; differ = f.differ }) e
 
 -- entries of an allowed length, one by one and by their lengths
@@ -69,8 +69,8 @@ module _ (l : ReadyLent) (e : Entries) (p : PendingForm l e) where
   pub pending_few_is : length (frozen_of l e) + length (memory_of l e) ≡ e.pending
   pending_few_is = omega (arith, length_frozen, length_memory, p.frozen_within)
 
-  pub none_frozen : e.frozen ≡ 0 → frozen_of l e ≡ []
-  none_frozen z = ap (view l.bytes l.lens) z ∙ view_none l.bytes l.lens
+  pub none_frozen_is : e.frozen ≡ 0 → frozen_of l e ≡ []
+  none_frozen_is z = ap (view l.bytes l.lens) z ∙ view_none l.bytes l.lens
 
   pub frozen_none : frozen_of l e ≡ [] → e.frozen ≡ 0
   frozen_none z = sym length_frozen ∙ ap length z

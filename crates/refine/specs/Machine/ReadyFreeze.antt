@@ -18,28 +18,28 @@ use Rattle.source.specs.JournalDisk.{DiskOp, NoDiskOp}
 use Rattle.source.specs.JournalCache as M
 use Rattle.source.specs.JournalCache.{SyncReqStatus, sync_reqs3to2, to_frozen_loc, to_in_memory_journal_frozen, to_in_memory_journal, to_frozen_journal_position, to_sync_reqs, to_is_frozen, FreezeClauses, ReceiveFrozenLocClauses}
 use Rattle.refine.specs.Machine.ReadyView.{ReadyLent, ready_of}
-use Rattle.refine.specs.Machine.ReadyCases.{none_seen, seen_none, other_seen, seen_other, none_flight, flight_none}
+use Rattle.refine.specs.Machine.ReadyCases.{none_seen, seen_none, other_seen_is, seen_other, none_flight, flight_none}
 use Rattle.refine.specs.Machine.ReadyForm.{PendingForm, ReplayForm, pending_is, all_replayed, replayed_all}
 
 module _ (l : ReadyLent) (sync : Map SyncReqStatus) (r : Ready) where
   -- the view of the next record is 000's next state
-  freeze_next : PendingForm l r.entries
+  freeze_next_is : PendingForm l r.entries
       → M.Variables.Ready (ready_of l (sync_reqs3to2 sync) (freeze_next r))
       ≡ M.Variables.Ready
       (to_frozen_loc none
       (to_in_memory_journal_frozen ((ready_of l sync r).in_memory_journal_frozen ++ (ready_of l sync r).in_memory_journal)
       (to_in_memory_journal []
-      (to_frozen_journal_position r.written_journal_len
+      (to_frozen_journal_position r.writtenJournalLen
       (to_sync_reqs (sync_reqs3to2 sync)
       (to_is_frozen true (ready_of l sync r)))))))
   unfolding freeze_next
-  freeze_next p =
+  freeze_next_is p =
       λ i.
       M.Variables.Ready
       (to_frozen_loc none
       (to_in_memory_journal_frozen (sym (pending_is l r.entries p) i)
       (to_in_memory_journal (none_left i)
-      (to_frozen_journal_position r.written_journal_len
+      (to_frozen_journal_position r.writtenJournalLen
       (to_sync_reqs (sync_reqs3to2 sync)
       (to_is_frozen true (ready_of l sync r)))))))
     where
@@ -55,10 +55,10 @@ module _ (l : ReadyLent) (sync : Map SyncReqStatus) (r : Ready) where
       let m = freeze_asked r e in
       record {
         op = refl;
-        no_write = none_flight r.commit m.no_commit;
-        other_loc = other_seen r.frozen.frozen_loc r.superblock.indirectionTableLoc m.other_loc;
+        no_write = none_flight r.commit m.no_commit_is;
+        other_loc = other_seen_is r.frozen.frozenLoc r.superblock.indirectionTableLoc m.other_loc;
         replayed = all_replayed l r.entries q m.all_replayed;
-        next = freeze_next p;
+        next = freeze_next_is p;
       }
 
   pub freeze_complete : PendingForm l r.entries → ReplayForm l r.entries → (s' : M.Variables) (dop : DiskOp) → FreezeClauses (ready_of l sync r) s' dop
@@ -66,11 +66,11 @@ module _ (l : ReadyLent) (sync : Map SyncReqStatus) (r : Ready) where
   freeze_complete p q s' dop h = (
     asks_freeze r
         (record {
-          no_commit = flight_none r.commit h.no_write;
-          other_loc = seen_other r.frozen.frozen_loc r.superblock.indirectionTableLoc h.other_loc;
+          no_commit_is = flight_none r.commit h.no_write;
+          other_loc = seen_other r.frozen.frozenLoc r.superblock.indirectionTableLoc h.other_loc;
           all_replayed = replayed_all l r.entries q h.replayed;
         }),
-    freeze_next p ∙ sym h.next,
+    freeze_next_is p ∙ sym h.next,
     h.op,
   )
 
@@ -82,7 +82,7 @@ module _ (l : ReadyLent) (sync : Map SyncReqStatus) (r : Ready) where
       record {
         op = refl;
         frozen = m.frozen;
-        none_received = none_seen r.frozen.frozen_loc m.none_received;
+        none_received = none_seen r.frozen.frozenLoc m.none_received;
         loc_valid = m.loc_valid;
         next = refl;
       }
@@ -91,4 +91,4 @@ module _ (l : ReadyLent) (sync : Map SyncReqStatus) (r : Ready) where
       → (ask_receive_frozen_loc g r loc ≡ 0) × (M.Variables.Ready (ready_of l sync (receive_frozen_loc_next r loc)) ≡ s') × (dop ≡ NoDiskOp)
   unfolding receive_frozen_loc_next
   receive_complete g loc s' dop h =
-      (asks_receive g r loc (record { loc_valid = h.loc_valid; frozen = h.frozen; none_received = seen_none r.frozen.frozen_loc h.none_received }), sym h.next, h.op)
+      (asks_receive g r loc (record { loc_valid = h.loc_valid; frozen = h.frozen; none_received = seen_none r.frozen.frozenLoc h.none_received }), sym h.next, h.op)

@@ -18,8 +18,8 @@ use Rattle.superblock.specs.declared.MaybeId.TheVariants.{Id, NoId}
 use Rattle.tables.specs.declared.IdTable.{IdTable}
 use Rattle.tables.specs.Rows.{Counted, ask_join}
 use Rattle.tables.specs.IdTable.{id_set, SizedIds, joined_id}
-use Rattle.tables.specs.Laws.Counts.{few_count, few_join}
-use Rattle.tables.specs.Laws.IdTables.{ids_joined, ids_joined_ok, ids_left, sized_joined_ids}
+use Rattle.tables.proofs.Laws.Counts.{few_count, few_join}
+use Rattle.tables.proofs.Laws.IdTables.{ids_joined, ids_joined_ok, ids_left, sized_joined_ids}
 use Rattle.range.specs.Form as Form
 use Rattle.range.specs.Form.{most_entry_length, length_width, used, blocks_for}
 use Rattle.range.specs.Memory.{view, total, total_split, view_none, length_view, view_moved, blocks_at_view}
@@ -39,7 +39,7 @@ use Rattle.source.specs.JournalCache.{SyncReqStatus, ReadyVariables, if_none, to
 use Rattle.source.specs.Limits.{Limits, Fitting}
 use Rattle.source.specs.Meets.{MachineMeets}
 use Rattle.source.specs.Departures.{OneRange}
-use Rattle.source.specs.Laws.Format.{write_good}
+use Rattle.source.proofs.Laws.Format.{write_good}
 use Rattle.refine.specs.Machine.ReadyView.{ReadyLent, id_of, maybe_id, frozen_of, memory_of, ready_of}
 use Rattle.refine.specs.Machine.ReadyCases.{none_flight, flight_none, id_seen}
 use Rattle.refine.specs.Machine.ReadyForm.{PendingForm, TableForm, ReadyForm, length_frozen}
@@ -131,8 +131,8 @@ module _ (l : ReadyLent) (e : Entries) (b : Bodies) (p : PendingForm l e) (found
       let whole : (sent e b).entries + (e.pending - (sent e b).entries) ≡ e.pending = omega (arith, sent_within) in
       omega (arith, p.fit, total_split l.lens e.pending (sent e b).entries (e.pending - (sent e b).entries) whole)
 
-  sent_blocks : length (format.encode (if_none (frozen_of l e) (memory_of l e) (frozen_of l e))) ≡ blocks_for (used length_width (sent e b).entries (sent e b).bytes)
-  sent_blocks =
+  sent_blocks_is : length (format.encode (if_none (frozen_of l e) (memory_of l e) (frozen_of l e))) ≡ blocks_for (used length_width (sent e b).entries (sent e b).bytes)
+  sent_blocks_is =
       length_encode_blocks (if_none (frozen_of l e) (memory_of l e) (frozen_of l e))
       ∙ ap Form.blocks sent_is
       ∙ blocks_at_view length_width most_entry_length l.bytes l.lens (sent e b).entries (omega (arith, sent_within, p.there)) sent_total
@@ -168,15 +168,15 @@ module _ (l : ReadyLent) (sync : Map SyncReqStatus) (r : Ready) (b : Bodies) (fo
   s = ready_of l sync r
 
   blocks_sent : length (sent_range s) ≡ sent_blocks r b
-  blocks_sent = sent_blocks l r.entries b form.pending found
+  blocks_sent = sent_blocks_is l r.entries b form.pending found
 
   -- the view of the next record and of moved memory is 000's next state
-  write_next : (id1 : ReqId) (id2 : MaybeId) (written : ℕ) → ask_ids r.writes id1 id2 ≡ 0 → written ≡ r.written_journal_len + sent_blocks r b
+  write_next : (id1 : ReqId) (id2 : MaybeId) (written : ℕ) → ask_ids r.writes id1 id2 ≡ 0 → written ≡ r.writtenJournalLen + sent_blocks r b
       → M.Variables.Ready (ready_of (moved_lent l (sent r.entries b) (left r.entries b)) (written_sync r.entries sync) (write_back_journal_req_next r id1 id2 written))
       ≡ M.Variables.Ready
       (to_outstanding_journal_writes (join_ids (id_set r.writes) id1 (id_of id2))
-      (to_written_journal_len (r.written_journal_len + length (sent_range s))
-      (to_frozen_journal_position (if_none (frozen_of l r.entries) r.frozen.frozen_journal_position (r.written_journal_len + length (sent_range s)))
+      (to_written_journal_len (r.writtenJournalLen + length (sent_range s))
+      (to_frozen_journal_position (if_none (frozen_of l r.entries) r.frozen.frozenJournalPosition (r.writtenJournalLen + length (sent_range s)))
       (to_in_memory_journal (if_none (frozen_of l r.entries) [] (memory_of l r.entries))
       (to_in_memory_journal_frozen []
       (to_sync_reqs (if_none (frozen_of l r.entries) (sync_reqs3to2 sync) sync) s))))))
@@ -191,15 +191,15 @@ module _ (l : ReadyLent) (sync : Map SyncReqStatus) (r : Ready) (b : Bodies) (fo
       (to_in_memory_journal_frozen (view_none (moved_lent l (sent r.entries b) (left r.entries b)).bytes (moved_lent l (sent r.entries b) (left r.entries b)).lens i)
       (to_sync_reqs (requests i) s))))))
     where
-      len : written ≡ r.written_journal_len + length (sent_range s)
-      len = w ∙ ap (λ (n : ℕ). r.written_journal_len + n) (sym blocks_sent)
+      len : written ≡ r.writtenJournalLen + length (sent_range s)
+      len = w ∙ ap (λ (n : ℕ). r.writtenJournalLen + n) (sym blocks_sent)
 
       none_is : {A : Type 0} (x y : A) → cond (none_frozen r.entries) x y ≡ if_none (frozen_of l r.entries) x y
       none_is x y = sym (by_none (frozen_of l r.entries) r.entries.frozen x y (length_frozen l r.entries form.pending))
 
-      position : cond (none_frozen r.entries) r.frozen.frozen_journal_position written
-          ≡ if_none (frozen_of l r.entries) r.frozen.frozen_journal_position (r.written_journal_len + length (sent_range s))
-      position = ap (λ (n : ℕ). cond (none_frozen r.entries) r.frozen.frozen_journal_position n) len ∙ none_is r.frozen.frozen_journal_position (r.written_journal_len + length (sent_range s))
+      position : cond (none_frozen r.entries) r.frozen.frozenJournalPosition written
+          ≡ if_none (frozen_of l r.entries) r.frozen.frozenJournalPosition (r.writtenJournalLen + length (sent_range s))
+      position = ap (λ (n : ℕ). cond (none_frozen r.entries) r.frozen.frozenJournalPosition n) len ∙ none_is r.frozen.frozenJournalPosition (r.writtenJournalLen + length (sent_range s))
 
       requests : cond (none_frozen r.entries) (sync_reqs3to2 sync) sync ≡ if_none (frozen_of l r.entries) (sync_reqs3to2 sync) sync
       requests = none_is (sync_reqs3to2 sync) sync
@@ -212,10 +212,10 @@ module _ (l : ReadyLent) (sync : Map SyncReqStatus) (r : Ready) (b : Bodies) (fo
 
   -- where the range goes, and what is written then
   abbrev start : Geometry → ℕ
-  start g = journal_pos_add g r.superblock.journalStart r.written_journal_len
+  start g = journal_pos_add g r.superblock.journalStart r.writtenJournalLen
 
   abbrev written : ℕ
-  written = r.written_journal_len + sent_blocks r b
+  written = r.writtenJournalLen + sent_blocks r b
 
   pub write_sound : (g : Geometry) (L : Limits) → Fitting format L → MachineMeets g L (M.Variables.Ready s) → (id1 : ReqId) (id2 : MaybeId) → ask_write_back_journal_req g r id1 id2 b ≡ 0
       → WriteBackJournalReqClauses g format s
@@ -227,8 +227,8 @@ module _ (l : ReadyLent) (sync : Map SyncReqStatus) (r : Ready) (b : Bodies) (fo
     record {
       parses = format.parse_encode (to_write s) good;
       fits = omega (arith, blocks_sent, m.fits);
-      some_block = format.encode-some (to_write s);
-      no_write = none_flight r.commit m.no_commit;
+      some_block = format.encode_some (to_write s);
+      no_write = none_flight r.commit m.no_commit_is;
       start_in = m.start_in;
       written_in = m.written_in;
       id1 = id1;
@@ -259,7 +259,7 @@ module _ (l : ReadyLent) (sync : Map SyncReqStatus) (r : Ready) (b : Bodies) (fo
   write_complete g z s' dop jr h one few = (
     asks_write g r h.id1 id2 b
         (record {
-          no_commit = flight_none r.commit h.no_write;
+          no_commit_is = flight_none r.commit h.no_write;
           some_pending = omega (arith, length_sent, (good_facts (to_write s) one.good).any);
           start_in = h.start_in;
           written_in = h.written_in;
@@ -292,15 +292,15 @@ module _ (l : ReadyLent) (sync : Map SyncReqStatus) (r : Ready) (b : Bodies) (fo
       -- the next state's ids and blocks are the predicate's
       same : M.Variables.Ready
           (to_outstanding_journal_writes (join_ids (id_set r.writes) h.id1 (id_of id2))
-          (to_written_journal_len (r.written_journal_len + length (sent_range s))
-          (to_frozen_journal_position (if_none (frozen_of l r.entries) r.frozen.frozen_journal_position (r.written_journal_len + length (sent_range s)))
+          (to_written_journal_len (r.writtenJournalLen + length (sent_range s))
+          (to_frozen_journal_position (if_none (frozen_of l r.entries) r.frozen.frozenJournalPosition (r.writtenJournalLen + length (sent_range s)))
           (to_in_memory_journal (if_none (frozen_of l r.entries) [] (memory_of l r.entries))
           (to_in_memory_journal_frozen []
           (to_sync_reqs (if_none (frozen_of l r.entries) (sync_reqs3to2 sync) sync) s))))))
           ≡ M.Variables.Ready
           (to_outstanding_journal_writes (join_ids (id_set r.writes) h.id1 h.id2)
-          (to_written_journal_len (r.written_journal_len + length jr)
-          (to_frozen_journal_position (if_none (frozen_of l r.entries) r.frozen.frozen_journal_position (r.written_journal_len + length jr))
+          (to_written_journal_len (r.writtenJournalLen + length jr)
+          (to_frozen_journal_position (if_none (frozen_of l r.entries) r.frozen.frozenJournalPosition (r.writtenJournalLen + length jr))
           (to_in_memory_journal (if_none (frozen_of l r.entries) [] (memory_of l r.entries))
           (to_in_memory_journal_frozen []
           (to_sync_reqs (if_none (frozen_of l r.entries) (sync_reqs3to2 sync) sync) s))))))
@@ -308,8 +308,8 @@ module _ (l : ReadyLent) (sync : Map SyncReqStatus) (r : Ready) (b : Bodies) (fo
           λ i.
           M.Variables.Ready
           (to_outstanding_journal_writes (join_ids (id_set r.writes) h.id1 (id_seen h.id2 i))
-          (to_written_journal_len (r.written_journal_len + length (sym one.range_is i))
-          (to_frozen_journal_position (if_none (frozen_of l r.entries) r.frozen.frozen_journal_position (r.written_journal_len + length (sym one.range_is i)))
+          (to_written_journal_len (r.writtenJournalLen + length (sym one.range_is i))
+          (to_frozen_journal_position (if_none (frozen_of l r.entries) r.frozen.frozenJournalPosition (r.writtenJournalLen + length (sym one.range_is i)))
           (to_in_memory_journal (if_none (frozen_of l r.entries) [] (memory_of l r.entries))
           (to_in_memory_journal_frozen []
           (to_sync_reqs (if_none (frozen_of l r.entries) (sync_reqs3to2 sync) sync) s))))))

@@ -3,32 +3,32 @@ use Rattle.std.specs.Prelude.{ℕ, ◌-◌, false, ◌≡◌}
 use Rattle.std.proofs.Math.Option.{none}
 use Rattle.std.proofs.Math.Nat.{sub-zero}
 use Rattle.superblock.specs.declared.Superblock.{Superblock}
-use Rattle.tables.specs.Laws.IdTables.{ids_empty}
+use Rattle.tables.proofs.Laws.IdTables.{ids_empty}
 use Rattle.range.specs.Memory.{view, view_none}
 use Rattle.ready.specs.State.{loaded}
 use Rattle.source.specs.JournalCache as M
 use Rattle.source.specs.JournalCache.{LoadingOtherVariables}
-use Rattle.source.specs.Laws.Loaded.{loaded_state}
+use Rattle.source.proofs.Laws.Loaded.{loaded_state}
 use Rattle.refine.specs.Machine.ReadyView.{ReadyLent, slot_of, ready_of}
 
 -- the view of the record
-pub loaded_view : (l : ReadyLent) (s : LoadingOtherVariables) (superblock : Superblock) (which n : ℕ) → superblock ≡ s.superblock → slot_of which ≡ s.which_superblock
+pub loaded_view : (l : ReadyLent) (s : LoadingOtherVariables) (superblock : Superblock) (which n : ℕ) → superblock ≡ s.superblock → slot_of which ≡ s.whichSuperblock
     → ready_of l s.sync_reqs (loaded superblock which n) ≡ loaded_state s (view l.rbytes l.rlens n)
 unfolding loaded
 loaded_view l s superblock which n e w =
     λ i.
     record {
-      frozen_loc = none;
-      is_frozen = false;
-      frozen_journal_position = 0;
+      frozenLoc = none;
+      isFrozen = false;
+      frozenJournalPosition = 0;
       superblock_write = none;
       in_memory_journal_frozen = view_none l.bytes l.lens i;
       in_memory_journal = view_none l.bytes l.lens i;
       outstanding_journal_writes = ids_empty i;
-      written_journal_len = (e i).journalLen;
+      writtenJournalLen = (e i).journalLen;
       replay_journal = view l.rbytes l.rlens (sub-zero n i);
       superblock = e i;
-      which_superblock = w i;
+      whichSuperblock = w i;
       commit_status = M.CommitStatus.CommitNone;
       new_superblock = none;
       sync_reqs = s.sync_reqs;

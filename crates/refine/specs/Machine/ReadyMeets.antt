@@ -5,12 +5,12 @@ use Rattle.std.proofs.Common.{sym, ◌∙◌, ap, subst, inl, inr, ⊎_elim, ari
 use Rattle.std.proofs.Math.Option.{some, some-injective}
 use Rattle.laws.specs.Choice.{ruin}
 use Rattle.laws.specs.Fold.{every}
-use Rattle.laws.specs.Sets.{Map, keys, AtMost, none-some}
+use Rattle.laws.specs.Sets.{Map, keys, AtMost, none_some}
 use Rattle.layout.specs.declared.Geometry.{Geometry}
 use Rattle.layout.specs.Geometry.{num_journal_blocks}
 use Rattle.superblock.specs.declared.Superblock.{Superblock}
-use Rattle.tables.specs.Laws.Counts.{count_few, few_count}
-use Rattle.tables.specs.Laws.IdTables.{ids_none}
+use Rattle.tables.proofs.Laws.Counts.{count_few, few_count}
+use Rattle.tables.proofs.Laws.IdTables.{ids_none}
 use Rattle.range.specs.Form.{block_size, ok_length}
 use Rattle.range.specs.Memory.{total}
 use Rattle.ready.specs.declared.Commit.{Commit}
@@ -25,8 +25,8 @@ use Rattle.source.specs.JournalCache.{SyncReqStatus, CommitAdvanceLog, CommitAdv
 use Rattle.source.specs.Limits.{Limits}
 use Rattle.source.specs.Meets.{MachineMeets}
 use Rattle.refine.specs.Machine.ReadyView.{ReadyLent, location_of, status_of, new_of, replay_of, ready_of}
-use Rattle.refine.specs.Machine.ReadyCases.{location_seen, received_seen, seen_received, commit_new, commit_status}
-use Rattle.refine.specs.Machine.ReadyForm.{PendingForm, TableForm, ReadyForm, table_none, each_fit, fit_each, pending_few_is, pending_small_is, none_frozen, frozen_none, frozen_fits, memory_fits, fits_pending, length_replay, lengths_replay, replay_small_is}
+use Rattle.refine.specs.Machine.ReadyCases.{location_seen, received_seen, seen_received, commit_new, commit_status_is}
+use Rattle.refine.specs.Machine.ReadyForm.{PendingForm, TableForm, ReadyForm, table_none, each_fit, fit_each, pending_few_is, pending_small_is, none_frozen_is, frozen_none, frozen_fits, memory_fits, fits_pending, length_replay, lengths_replay, replay_small_is}
 
 module _ (g : Geometry) (l : ReadyLent) (sync : Map SyncReqStatus) (r : Ready) (p : PendingForm l r.entries) where
   -- the view with a given commit in flight
@@ -45,7 +45,7 @@ module _ (g : Geometry) (l : ReadyLent) (sync : Map SyncReqStatus) (r : Ready) (
   location_inv (commit.CommitAdvanceLocation id new) f e =
       record {
         frozen = f.0.frozen;
-        received = received_seen r.frozen.frozen_loc f.0.received;
+        received = received_seen r.frozen.frozenLoc f.0.received;
         new = new;
         new_is = refl;
         new_start = f.0.new_start;
@@ -54,58 +54,58 @@ module _ (g : Geometry) (l : ReadyLent) (sync : Map SyncReqStatus) (r : Ready) (
       }
 
   new_inv : (c : Commit) → InFlight g r c → (new : Superblock) → new_of c ≡ some new → InvNewSuperblock g (seen c) new
-  new_inv commit.CommitNone f new e = none-some refl e
+  new_inv commit.CommitNone f new e = none_some refl e
   new_inv (commit.CommitAdvanceLog id k) f new e =
       subst (InvNewSuperblock g (seen (commit.CommitAdvanceLog id k))) (some-injective k new e)
       (record {
-        all_written = ids_none r.writes f.1.none_outstanding;
+        all_written = ids_none r.writes f.1.none_outstanding_is;
         new_loc = ⊎_elim (λ h. inl h) (λ h. inr (ap location_of h)) f.1.new_loc;
         commit = inl refl;
         new_wf = f.1.new_wf;
         new_counter = f.1.new_counter;
-        none_frozen = none_frozen l r.entries p f.1.none_frozen;
+        none_frozen_is = none_frozen_is l r.entries p f.1.none_frozen_is;
       })
   new_inv (commit.CommitAdvanceLocation id k) f new e =
       subst (InvNewSuperblock g (seen (commit.CommitAdvanceLocation id k))) (some-injective k new e)
       (record {
-        all_written = ids_none r.writes f.1.none_outstanding;
+        all_written = ids_none r.writes f.1.none_outstanding_is;
         new_loc = ⊎_elim (λ h. inl h) (λ h. inr (ap location_of h)) f.1.new_loc;
         commit = inr refl;
         new_wf = f.1.new_wf;
         new_counter = f.1.new_counter;
-        none_frozen = none_frozen l r.entries p f.1.none_frozen;
+        none_frozen_is = none_frozen_is l r.entries p f.1.none_frozen_is;
       })
 
   facts_inv : ReadyFacts g r → InvReady g (ready_of l sync r)
   facts_inv f =
       record {
         write_new = commit_new r.commit;
-        write_commit = commit_status r.commit;
+        write_commit = commit_status_is r.commit;
         written_in = f.extent.written_in;
         len_written = f.extent.len_written;
         if_frozen = λ e. let k = f.if_frozen e in record { position_in = k.position_in; len_written = k.len_written; position_written = k.position_written };
         if_received = λ loc e.
-            let k = f.if_received loc (location_seen r.frozen.frozen_loc loc e) in
+            let k = f.if_received loc (location_seen r.frozen.frozenLoc loc e) in
             record { loc_valid = k.loc_valid; frozen = k.frozen };
         superblock_wf = f.superblock_wf;
-        if_advance_log = log_inv r.commit f.in_flight;
-        if_advance_location = location_inv r.commit f.in_flight;
-        if_new = new_inv r.commit f.in_flight;
+        if_advance_log = log_inv r.commit f.in_flight_is;
+        if_advance_location = location_inv r.commit f.in_flight_is;
+        if_new = new_inv r.commit f.in_flight_is;
         if_some_frozen = λ h.
-            let k = f.if_some_frozen (λ z. h (none_frozen l r.entries p z)) in
+            let k = f.if_some_frozen (λ z. h (none_frozen_is l r.entries p z)) in
             record { position_is = k.position_is; frozen = k.frozen };
       }
 
   -- and back: each case of the commit in flight from the clauses of the view
   module _ (t : TableForm r.writes) where
-    is_new : (c : Commit) (new : Superblock) → InvNewSuperblock g (seen c) new → IsNew g r new
-    is_new c new k =
+    is_new_is : (c : Commit) (new : Superblock) → InvNewSuperblock g (seen c) new → IsNew g r new
+    is_new_is c new k =
         record {
-          none_outstanding = table_none r.writes t k.all_written;
-          new_loc = ⊎_elim (λ h. inl h) (λ h. inr (location_seen r.frozen.frozen_loc new.indirectionTableLoc h)) k.new_loc;
+          none_outstanding_is = table_none r.writes t k.all_written;
+          new_loc = ⊎_elim (λ h. inl h) (λ h. inr (location_seen r.frozen.frozenLoc new.indirectionTableLoc h)) k.new_loc;
           new_wf = k.new_wf;
           new_counter = k.new_counter;
-          none_frozen = frozen_none l r.entries p k.none_frozen;
+          none_frozen_is = frozen_none l r.entries p k.none_frozen_is;
         }
 
     inv_flight : (c : Commit) → InvReady g (seen c) → InFlight g r c
@@ -118,19 +118,19 @@ module _ (g : Geometry) (l : ReadyLent) (sync : Map SyncReqStatus) (r : Ready) (
             new_start = ap (λ (s : Superblock). s.journalStart) (sym same) ∙ k.new_start;
             new_len = ap (λ (s : Superblock). s.journalLen) (sym same) ∙ k.new_len;
           },
-          is_new (commit.CommitAdvanceLog id new) new (i.if_new new refl),
+          is_new_is (commit.CommitAdvanceLog id new) new (i.if_new new refl),
         )
     inv_flight (commit.CommitAdvanceLocation id new) i =
         let k = i.if_advance_location refl in
         let same : k.new ≡ new = some-injective k.new new (sym k.new_is) in (
           record {
             frozen = k.frozen;
-            received = seen_received r.frozen.frozen_loc k.received;
+            received = seen_received r.frozen.frozenLoc k.received;
             new_start = ap (λ (s : Superblock). s.journalStart) (sym same) ∙ k.new_start;
             new_len = ap (λ (s : Superblock). s.journalLen) (sym same) ∙ k.new_len;
-            new_end = subst (λ (s : Superblock). r.frozen.frozen_journal_position + s.journalLen ≤ r.written_journal_len) same k.new_end;
+            new_end = subst (λ (s : Superblock). r.frozen.frozenJournalPosition + s.journalLen ≤ r.writtenJournalLen) same k.new_end;
           },
-          is_new (commit.CommitAdvanceLocation id new) new (i.if_new new refl),
+          is_new_is (commit.CommitAdvanceLocation id new) new (i.if_new new refl),
         )
 
 -- what a look at lent memory finds: of pending entries, and of replay entries behind what is taken
@@ -204,7 +204,7 @@ module _ (g : Geometry) (L : Limits) (l : ReadyLent) (sync : Map SyncReqStatus) 
             let k = m.inv.if_received loc (ap location_of e) in
             record { loc_valid = k.loc_valid; frozen = k.frozen };
         superblock_wf = m.inv.superblock_wf;
-        in_flight = inv_flight g l sync r form.pending form.writes r.commit m.inv;
+        in_flight_is = inv_flight g l sync r form.pending form.writes r.commit m.inv;
         if_some_frozen = λ h.
             let k = m.inv.if_some_frozen (λ z. h (frozen_none l r.entries form.pending z)) in
             record { position_is = k.position_is; frozen = k.frozen };

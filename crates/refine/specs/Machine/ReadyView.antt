@@ -71,17 +71,17 @@ replay_of l e = view (drop e.taken.bytes l.rbytes) (drop e.taken.entries l.rlens
 abbrev pub ready_of : ReadyLent → Map SyncReqStatus → Ready → ReadyVariables
 ready_of l sync_reqs r =
     record {
-      frozen_loc = location_of r.frozen.frozen_loc;
-      is_frozen = r.frozen.is_frozen;
-      frozen_journal_position = r.frozen.frozen_journal_position;
+      frozenLoc = location_of r.frozen.frozenLoc;
+      isFrozen = r.frozen.isFrozen;
+      frozenJournalPosition = r.frozen.frozenJournalPosition;
       superblock_write = write_of r.commit;
       in_memory_journal_frozen = frozen_of l r.entries;
       in_memory_journal = memory_of l r.entries;
       outstanding_journal_writes = id_set r.writes;
-      written_journal_len = r.written_journal_len;
+      writtenJournalLen = r.writtenJournalLen;
       replay_journal = replay_of l r.entries;
       superblock = r.superblock;
-      which_superblock = slot_of r.which_superblock;
+      whichSuperblock = slot_of r.whichSuperblock;
       commit_status = status_of r.commit;
       new_superblock = new_of r.commit;
       sync_reqs = sync_reqs;

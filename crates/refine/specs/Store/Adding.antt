@@ -2,7 +2,7 @@
 use Rattle.std.specs.Prelude.{ℕ, ◌≡◌}
 use Rattle.std.proofs.Math.Path.{refl}
 use Rattle.std.proofs.Common.{sym, ◌∙◌, subst}
-use Rattle.laws.specs.Choice.{and_then, and_then_left, and_then_right, unless-done}
+use Rattle.laws.specs.Choice.{and_then, and_then_left, and_then_right, unless_done}
 use Rattle.layout.specs.declared.Geometry.{Geometry}
 use Rattle.superblock.specs.declared.DiskOp.{DiskOp}
 use Rattle.superblock.specs.declared.DiskOp.TheVariants as op
@@ -47,7 +47,7 @@ module _ (g : Geometry) (l : Lent) (v : Given) (s : Store) (k : ℕ) where
       (appended_lens s.machine (count_of (memory v.brought v.sizes k)) v.sizes l.lens)
 
   lent_added : q ≡ 0 → added_lent l s v.brought v.sizes k q b ≡ after
-  lent_added e = λ i. with_pending l (unless-done q l.bytes after.bytes e i) (unless-done q l.lens after.lens e i)
+  lent_added e = λ i. with_pending l (unless_done q l.bytes after.bytes e i) (unless_done q l.lens after.lens e i)
 
   given_there : q ≡ 0 → form.Given v.brought v.sizes k
   unfolding ask_advance_step

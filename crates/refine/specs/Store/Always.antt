@@ -65,7 +65,7 @@ module _ (g : Geometry) (l : Lent) (v : Given) (s : Store) (z : SizedStore s) (e
       (λ m q d.
       record {
         step = Source NoOpStep;
-        moves = record { source = record { op = M.NoOpOp.no_op refl; next = refl }; unawaited = λ w. w };
+        moves = record { source = record { op = M.NoOpOp.no_op_is refl; next = refl }; unawaited = λ w. w };
         tied = Tied.tied_no_op;
       })
 

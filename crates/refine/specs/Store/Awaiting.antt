@@ -3,10 +3,10 @@
 use Rattle.std.specs.Prelude.{ℕ, true, ◌≡◌, refl, List}
 use Rattle.std.proofs.Common.{sym, ◌∙◌, ap}
 use Rattle.std.proofs.Math.Option.{Option, none, some}
-use Rattle.laws.specs.Sets.{Map, no_keys, bind, none-some, same_value, bind_here, bind_there}
+use Rattle.laws.specs.Sets.{Map, no_keys, bind, none_some, same_value, bind_here, bind_there}
 use Rattle.layout.specs.declared.Geometry.{Geometry}
 use Rattle.interval.specs.declared.JournalInterval.{JournalInterval}
-use Rattle.interval.specs.Laws.{len_of}
+use Rattle.interval.proofs.Laws.{len_of}
 use Rattle.superblock.specs.Superblock.{journal_front_interval_of_superblock, journal_back_interval_of_superblock}
 use Rattle.superblock.specs.declared.JournalRead.TheVariants as read
 use Rattle.source.specs.JournalDisk.{ReqId}
@@ -30,8 +30,8 @@ use Rattle.refine.specs.Machine.MachineKinds.{by_kind_is}
 -- a read in the table: its own interval, and what stands behind another's
 read_len : (o : Option ReqId) (u : Option JournalInterval) (m : Map JournalInterval) (id : ReqId) (v : JournalInterval) → o ≡ some id → There u → bind_read o u m id ≡ some v
     → len_of u ≡ v.len
-read_len none u m id v e t q = none-some refl e
-read_len (some k) none m id v e t q = none-some refl t.1
+read_len none u m id v e t q = none_some refl e
+read_len (some k) none m id v e t q = none_some refl t.1
 read_len (some k) (some x) m id v e t q =
     let k-is : k ≡ id = same_value {o = some k} refl e in
     ap (λ (w : JournalInterval). w.len) (same_value (bind_here m id x) (sym (λ i. bind m (k-is i) x id) ∙ q))
@@ -65,7 +65,7 @@ module _ (g : Geometry) (pieces : List ℕ) (s : LoadingOther) (y : Map SyncReqS
           ∙ read_len (awaited_read s.back) (journal_back_interval_of_superblock g s.superblock) no_keys id v (ap awaited_read e)
           ((loading_other_facts g s k).back_there (reading_read s.back id e)) (past_front n)
       go (nobody n m) =
-          none-some (read_past (awaited_read s.back) (journal_back_interval_of_superblock g s.superblock) no_keys id (λ e. m (awaited_is s.back id e))) (past_front n)
+          none_some (read_past (awaited_read s.back) (journal_back_interval_of_superblock g s.superblock) no_keys id (λ e. m (awaited_is s.back id e))) (past_front n)
 
 -- in any kind of machine: no other awaits a journal read
 pub paged_len : (g : Geometry) (l : Lent) (m : Machine) (id : ReqId) (v : JournalInterval) → ask_machine g l m ≡ 0 → awaited_journal_reads g (machine_of g l m) id ≡ some v
@@ -73,7 +73,7 @@ pub paged_len : (g : Geometry) (l : Lent) (m : Machine) (id : ReqId) (v : Journa
 unfolding paged_in
 paged_len g l m id v a q =
     by_kind_is (λ m. KindOk g m → awaited_journal_reads g (machine_of g l m) id ≡ some v → (paged_in g m id read.Whole).len ≡ v.len) m
-    (λ k q. none-some refl q)
+    (λ k q. none_some refl q)
     (λ k q. place_len g l.pieces m.other (syncs_of m) id v k q)
-    (λ k q. none-some refl q)
+    (λ k q. none_some refl q)
     (machine_kind_ok g l m a) q

@@ -26,7 +26,7 @@ use Rattle.refine.specs.Store.Seen.{seen, SizedStore, store_met, met_system, cal
 module _ (g : Geometry) (l : Lent) (v : Given) (s : Store) (z : SizedStore s) (e : ask_store g l s ≡ 0) where
   pub crash_takes : ask_journal g v.picture v.pictured ≡ 0
       → Takes g format limits (seen g l s)
-      (seen g (with_journal l (crashed_blocks s.disk.journal_writes v.picture l.blocks) (crashed_marks s.disk.journal_writes v.pictured l.marks)) (crashed s))
+      (seen g (with_journal l (crashed_blocks s.disk.journalWrites v.picture l.blocks) (crashed_marks s.disk.journalWrites v.pictured l.marks)) (crashed s))
       (call_of v step.Crash)
   crash_takes q =
       let m = store_met g l s z e in
@@ -59,7 +59,7 @@ module _ (g : Geometry) (l : Lent) (v : Given) (s : Store) (z : SizedStore s) (e
                     machine = initial_seen g (machine_lent l);
                     disk =
                         subst (λ (x : D.Variables). DiskCrash⁺ g (disk_of g l.blocks l.marks s.disk) x (cells g l.blocks l.marks))
-                        (λ i. disk_of g (own_blocks s.disk.journal_writes l.blocks i) (own_marks s.disk.journal_writes l.marks i) (crashed_disk s.disk))
+                        (λ i. disk_of g (own_blocks s.disk.journalWrites l.blocks i) (own_marks s.disk.journalWrites l.marks i) (crashed_disk s.disk))
                         clauses;
                   };
             };

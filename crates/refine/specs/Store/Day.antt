@@ -23,11 +23,11 @@ use Rattle.source.specs.Departures.{Event, FinishLoadingOtherPhase⁺, Allowed}
 use Rattle.history.specs.Ledger as ledger
 use Rattle.history.specs.Ledger.{Call}
 use Rattle.history.specs.Statement.{Tied, tied_finish_other, Takes, Trace, OnlyLoads, Loaded, LoadedStore, shows}
-use Rattle.history.specs.Loads.Comes.{taken}
-use Rattle.history.specs.Example.Setting.{g, g_valid, sb0, first, small, large, small_few, small_fit, large_few, large_fit}
-use Rattle.history.specs.Example.Walk.{Walk, there, ◌then◌, ◌refused-then◌}
-use Rattle.history.specs.Example.States.{s29}
-use Rattle.history.specs.Example.Example.{day, answers, walk, evening, told, example_loads, example_shows, example_saved}
+use Rattle.history.proofs.Loads.Comes.{taken}
+use Rattle.history.proofs.Example.Setting.{g, g_valid, sb0, first, small, large, small_few, small_fit, large_few, large_fit}
+use Rattle.history.proofs.Example.Walk.{Walk, there, ◌then◌, ◌refused-then◌}
+use Rattle.history.proofs.Example.States.{s29}
+use Rattle.history.proofs.Example.Example.{day, answers, walk, evening, told, example_loads, example_shows, example_saved}
 use Rattle.store.specs.Lent.{Lent, machine_lent}
 use Rattle.refine.specs.Disk.View as disk
 use Rattle.refine.specs.Machine.MachineView.{MachineLent, syncs_of}

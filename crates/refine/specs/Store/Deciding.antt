@@ -9,7 +9,7 @@ use Rattle.superblock.specs.declared.SuperblockRead.{SuperblockRead}
 use Rattle.superblock.specs.declared.SuperblockRead.TheVariants as read
 use Rattle.source.specs.JournalDisk as D
 use Rattle.source.specs.Limits.{limits, DiskCounts}
-use Rattle.source.specs.Laws.Unique.{disk_next_one}
+use Rattle.source.proofs.Laws.Unique.{disk_next_one}
 use Rattle.disk.specs.declared.Disk.{Disk}
 use Rattle.requests.specs.Acknowledge.{ask_read_superblock_as}
 use Rattle.disk.specs.Operation.{ask_decision, operation_next}
@@ -42,7 +42,7 @@ module _ (g : Geometry) (blocks marks : List ℕ) (d : Disk) (z : SizedDisk d) (
   before = disk_of g blocks marks d
 
   asks_read : (id which : ℕ) (x : SuperblockRead) → which ≤ 1 → D.AckReadSuperblock before s' id (bit_of which) (superblock_in x)
-      → ask_read_superblock_as d.slots d.superblock_reads which id x ≡ 0
+      → ask_read_superblock_as d.slots d.superblockReads which id x ≡ 0
   asks_read id which (read.Whole superblock) w a = SuperblockReads.clauses_read_as g d which id blocks marks w (superblock_in (read.Whole superblock)) s' a
   asks_read id which read.Damaged w a = SuperblockReads.clauses_read_as g d which id blocks marks w (superblock_in read.Damaged) s' a
 

@@ -20,10 +20,10 @@ use Rattle.tables.specs.declared.IntervalTable.{IntervalTable}
 use Rattle.tables.specs.Rows.{place_of, Counted, has_room}
 use Rattle.tables.specs.IdTable.{id_set, added_id, removed_id}
 use Rattle.tables.specs.IntervalTable.{interval_rows, added_interval}
-use Rattle.tables.specs.Laws.Counts.{Addable, addable, add_asked, room_limit, room_array, count_few}
-use Rattle.tables.specs.Laws.IdTables.{ids_added_ok, ids_removed_ok}
-use Rattle.tables.specs.Laws.RowTables.{rows_second, rows_few}
-use Rattle.tables.specs.Laws.IntervalTables.{intervals_added_ok, intervals_removed_ok, level_intervals}
+use Rattle.tables.proofs.Laws.Counts.{Addable, addable, add_asked, room_limit, room_array, count_few}
+use Rattle.tables.proofs.Laws.IdTables.{ids_added_ok, ids_removed_ok}
+use Rattle.tables.proofs.Laws.RowTables.{rows_second, rows_few}
+use Rattle.tables.proofs.Laws.IntervalTables.{intervals_added_ok, intervals_removed_ok, level_intervals}
 use Rattle.source.specs.Limits.{limits, DiskCounts}
 use Rattle.requests.specs.declared.Slots.{Slots}
 use Rattle.requests.specs.declared.SuperblockReads.{SuperblockReads}
@@ -44,13 +44,13 @@ use Rattle.refine.specs.Disk.View.{disk_of, SizedDisk, DiskTables}
 
 -- question 2 of the tables
 pub record Tabled (d : Disk) : Type 0 where
-  pub reads1 : Counted 8 d.superblock_reads.first.count d.superblock_reads.first.ids
-  pub reads2 : Counted 8 d.superblock_reads.second.count d.superblock_reads.second.ids
-  pub journal_reads : Counted 8 d.journal_reads.count d.journal_reads.ids
-  pub journal_writes : Counted 16 d.journal_writes.count d.journal_writes.ids
+  pub reads1 : Counted 8 d.superblockReads.first.count d.superblockReads.first.ids
+  pub reads2 : Counted 8 d.superblockReads.second.count d.superblockReads.second.ids
+  pub journal_reads_is : Counted 8 d.journalReads.count d.journalReads.ids
+  pub journal_writes_is : Counted 16 d.journalWrites.count d.journalWrites.ids
 
 pub ok_tabled : (g : Geometry) (d : Disk) → DiskOk g d → Tabled d
-ok_tabled g d f = record { reads1 = f.reads1; reads2 = f.reads2; journal_reads = f.journal_reads; journal_writes = f.journal_writes }
+ok_tabled g d f = record { reads1 = f.reads1; reads2 = f.reads2; journal_reads_is = f.journal_reads_is; journal_writes_is = f.journal_writes_is }
 
 -- what it says of the record, and of the view
 pub tabled_tables : (d : Disk) → Tabled d → DiskTables d
@@ -58,21 +58,21 @@ tabled_tables d t =
     record {
       reads1 = record { in_array = t.reads1.in_array; differ = t.reads1.differ };
       reads2 = record { in_array = t.reads2.in_array; differ = t.reads2.differ };
-      journal_reads = record { in_array = t.journal_reads.in_array; differ = t.journal_reads.differ };
-      journal_writes = record { in_array = t.journal_writes.in_array; differ = t.journal_writes.differ };
+      journal_reads_is = record { in_array = t.journal_reads_is.in_array; differ = t.journal_reads_is.differ };
+      journal_writes_is = record { in_array = t.journal_writes_is.in_array; differ = t.journal_writes_is.differ };
     }
 
 pub tabled_counts : (g : Geometry) (blocks marks : List ℕ) (d : Disk) → SizedDisk d → Tabled d → DiskCounts limits (disk_of g blocks marks d)
 tabled_counts g blocks marks d z t =
     record {
       superblock_reads_few = slots;
-      journal_reads_few = rows_few (interval_rows d.journal_reads) (level_intervals d.journal_reads z.journal_reads) 8 t.journal_reads 8 t.journal_reads.few;
-      journal_writes_few = rows_few (interval_rows d.journal_writes) (level_intervals d.journal_writes z.journal_writes) 16 t.journal_writes 16 t.journal_writes.few;
+      journal_reads_few = rows_few (interval_rows d.journalReads) (level_intervals d.journalReads z.journal_reads_is) 8 t.journal_reads_is 8 t.journal_reads_is.few;
+      journal_writes_few = rows_few (interval_rows d.journalWrites) (level_intervals d.journalWrites z.journal_writes_is) 16 t.journal_writes_is 16 t.journal_writes_is.few;
     }
   where
     slots : (which : Bool) → AtMost 8 (at (disk_of g blocks marks d).req_read_superblocks which)
-    slots false = count_few 8 d.superblock_reads.first.count d.superblock_reads.first.ids t.reads1 8 t.reads1.few
-    slots true = count_few 8 d.superblock_reads.second.count d.superblock_reads.second.ids t.reads2 8 t.reads2.few
+    slots false = count_few 8 d.superblockReads.first.count d.superblockReads.first.ids t.reads1 8 t.reads1.few
+    slots true = count_few 8 d.superblockReads.second.count d.superblockReads.second.ids t.reads2 8 t.reads2.few
 
 -- one slot's table
 abbrev InTable : IdTable → Type 0
@@ -149,7 +149,7 @@ idle_tabled g slots = ok_tabled g (idle_disk slots) (idle_ok g slots)
 module _ (d : Disk) (t : Tabled d) where
   pub land_tabled : (which : ℕ) → Tabled (land_next d which)
   unfolding land_next
-  land_tabled which = record { reads1 = t.reads1; reads2 = t.reads2; journal_reads = t.journal_reads; journal_writes = t.journal_writes }
+  land_tabled which = record { reads1 = t.reads1; reads2 = t.reads2; journal_reads_is = t.journal_reads_is; journal_writes_is = t.journal_writes_is }
 
   pub read_left_tabled : (id : ℕ) → Tabled (ack_read_journal_next d id)
   unfolding ack_read_journal_next interval_left
@@ -157,60 +157,60 @@ module _ (d : Disk) (t : Tabled d) where
       record {
         reads1 = t.reads1;
         reads2 = t.reads2;
-        journal_reads = intervals_removed_ok d.journal_reads 8 t.journal_reads (place_of id (take d.journal_reads.count d.journal_reads.ids));
-        journal_writes = t.journal_writes;
+        journal_reads_is = intervals_removed_ok d.journalReads 8 t.journal_reads_is (place_of id (take d.journalReads.count d.journalReads.ids));
+        journal_writes_is = t.journal_writes_is;
       }
 
   reads_put_tabled : (which : ℕ) (x : IdTable) → InTable x
-      → Tabled (record { slots = d.slots; superblock_reads = put_reads d.superblock_reads which x; superblockWrites = d.superblockWrites; journal_reads = d.journal_reads; journal_writes = d.journal_writes })
+      → Tabled (record { slots = d.slots; superblockReads = put_reads d.superblockReads which x; superblockWrites = d.superblockWrites; journalReads = d.journalReads; journalWrites = d.journalWrites })
   reads_put_tabled which x c =
       record {
-        reads1 = put_first InTable d.superblock_reads which x t.reads1 t.reads2 c;
-        reads2 = put_second InTable d.superblock_reads which x t.reads1 t.reads2 c;
-        journal_reads = t.journal_reads;
-        journal_writes = t.journal_writes;
+        reads1 = put_first InTable d.superblockReads which x t.reads1 t.reads2 c;
+        reads2 = put_second InTable d.superblockReads which x t.reads1 t.reads2 c;
+        journal_reads_is = t.journal_reads_is;
+        journal_writes_is = t.journal_writes_is;
       }
 
   pub operation_tabled : (g : Geometry) (o : DiskOp) → ask_decision g d o ≡ 0 → Tabled (operation_next g d o)
   unfolding recv_read_superblock_next recv_read_journal_next recv_write_superblock_next recv_write_journal_next ack_read_superblock_next ack_write_superblock_next ack_write_journal_next read_received read_acked interval_left
   operation_tabled g (op.ReqReadSuperblock id which) e =
-      let a = recv_read_superblock_asked d.superblock_reads which id e in
-      let u : IdTable = reads_at d.superblock_reads which in
+      let a = recv_read_superblock_asked d.superblockReads which id e in
+      let u : IdTable = reads_at d.superblockReads which in
       reads_put_tabled which (added_id u id)
-      (ids_added_ok u 8 (at_kept d.superblock_reads which t.reads1 t.reads2) id
-      (addable 8 u.count u.ids id (new_at d.superblock_reads which id a.new1 a.new2) a.room))
+      (ids_added_ok u 8 (at_kept d.superblockReads which t.reads1 t.reads2) id
+      (addable 8 u.count u.ids id (new_at d.superblockReads which id a.new1 a.new2) a.room))
   operation_tabled g (op.ReqReadJournal id v) e =
       record {
         reads1 = t.reads1;
         reads2 = t.reads2;
-        journal_reads =
-            intervals_added_ok d.journal_reads 8 t.journal_reads id v
-            (add_asked 8 d.journal_reads.count d.journal_reads.ids id (recv_read_journal_asked g d.journal_reads id v e).add);
-        journal_writes = t.journal_writes;
+        journal_reads_is =
+            intervals_added_ok d.journalReads 8 t.journal_reads_is id v
+            (add_asked 8 d.journalReads.count d.journalReads.ids id (recv_read_journal_asked g d.journalReads id v e).add);
+        journal_writes_is = t.journal_writes_is;
       }
   operation_tabled g (op.ReqWriteSuperblock id which superblock) e =
-      record { reads1 = t.reads1; reads2 = t.reads2; journal_reads = t.journal_reads; journal_writes = t.journal_writes }
+      record { reads1 = t.reads1; reads2 = t.reads2; journal_reads_is = t.journal_reads_is; journal_writes_is = t.journal_writes_is }
   operation_tabled g (op.ReqWriteJournal id1 id2 start count) e =
       record {
         reads1 = t.reads1;
         reads2 = t.reads2;
-        journal_reads = t.journal_reads;
-        journal_writes =
-            write_kept g d.journal_writes id1 (interval start count) t.journal_writes id2
-            (recv_write_journal_asked g d.journal_writes id1 id2 (interval start count) e);
+        journal_reads_is = t.journal_reads_is;
+        journal_writes_is =
+            write_kept g d.journalWrites id1 (interval start count) t.journal_writes_is id2
+            (recv_write_journal_asked g d.journalWrites id1 id2 (interval start count) e);
       }
   operation_tabled g (op.RespReadSuperblock id which superblock) e =
-      let u : IdTable = reads_at d.superblock_reads which in
+      let u : IdTable = reads_at d.superblockReads which in
       reads_put_tabled which (removed_id u (place_of id (take u.count u.ids)))
-      (ids_removed_ok u 8 (at_kept d.superblock_reads which t.reads1 t.reads2) (place_of id (take u.count u.ids)))
+      (ids_removed_ok u 8 (at_kept d.superblockReads which t.reads1 t.reads2) (place_of id (take u.count u.ids)))
   operation_tabled g (op.RespReadJournal id journal) e = read_left_tabled id
   operation_tabled g (op.RespWriteSuperblock id which) e =
-      record { reads1 = t.reads1; reads2 = t.reads2; journal_reads = t.journal_reads; journal_writes = t.journal_writes }
+      record { reads1 = t.reads1; reads2 = t.reads2; journal_reads_is = t.journal_reads_is; journal_writes_is = t.journal_writes_is }
   operation_tabled g (op.RespWriteJournal id) e =
       record {
         reads1 = t.reads1;
         reads2 = t.reads2;
-        journal_reads = t.journal_reads;
-        journal_writes = intervals_removed_ok d.journal_writes 16 t.journal_writes (place_of id (take d.journal_writes.count d.journal_writes.ids));
+        journal_reads_is = t.journal_reads_is;
+        journal_writes_is = intervals_removed_ok d.journalWrites 16 t.journal_writes_is (place_of id (take d.journalWrites.count d.journalWrites.ids));
       }
   operation_tabled g op.NoDiskOp e = t

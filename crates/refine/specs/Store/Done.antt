@@ -20,7 +20,7 @@ use Rattle.refine.specs.Store.Seen.{seen, SizedStore, StoreMet, met_store, call_
 
 -- what the records and lent memory add to the view
 pub record StoreForm (g : Geometry) (l : Lent) (s : Store) : Type 0 where
-  pub machine_lent : MachineLent g (machine_lent l)
+  pub machine_lent_is : MachineLent g (machine_lent l)
   pub machine : MachineForm (machine_lent l) s.machine
   pub disk_lent : disk.Lent g l.blocks l.marks
   pub tables : disk.DiskTables s.disk
@@ -29,13 +29,13 @@ pub record StoreForm (g : Geometry) (l : Lent) (s : Store) : Type 0 where
 pub form_met : (g : Geometry) (l : Lent) (s : Store) (z : SizedStore s) → StoreForm g l s → SystemMeets g limits (seen g l s) → StoreMet g l s z
 form_met g l s z f m =
     record {
-      machine = record { lent = f.machine_lent; form = f.machine; meets = m.machine };
+      machine = record { lent = f.machine_lent_is; form = f.machine; meets = m.machine };
       disk = record { lent = f.disk_lent; tables = f.tables; meets = m.disk };
       joined = m.joined;
     }
 
 pub met_form : (g : Geometry) (l : Lent) (s : Store) (z : SizedStore s) → StoreMet g l s z → StoreForm g l s
-met_form g l s z m = record { machine_lent = m.machine.lent; machine = m.machine.form; disk_lent = m.disk.lent; tables = m.disk.tables }
+met_form g l s z m = record { machine_lent_is = m.machine.lent; machine = m.machine.form; disk_lent = m.disk.lent; tables = m.disk.tables }
 
 pub form_asks : (g : Geometry) (l : Lent) (s : Store) → SizedStore s → StoreForm g l s → SystemMeets g limits (seen g l s) → ask_store g l s ≡ 0
 form_asks g l s z f m = met_store g l s z (form_met g l s z f m)

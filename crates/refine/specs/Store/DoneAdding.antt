@@ -2,7 +2,7 @@
 use Rattle.std.specs.Prelude.{ℕ, ◌≡◌, List, length}
 use Rattle.std.proofs.Math.Path.{refl}
 use Rattle.std.proofs.Common.{sym, subst}
-use Rattle.laws.specs.Choice.{and_then, and_then_both, unless-done}
+use Rattle.laws.specs.Choice.{and_then, and_then_both, unless_done}
 use Rattle.layout.specs.declared.Geometry.{Geometry}
 use Rattle.superblock.specs.declared.DiskOp.TheVariants as op
 use Rattle.range.specs.Memory.{view}
@@ -54,7 +54,7 @@ module _ (g : Geometry) (l : Lent) (v : Given) (s : Store) (k : ℕ) where
   next = store (advance_machine s.machine b (given_of v.brought v.sizes k)) s.disk
 
   lent_added : q ≡ 0 → added_lent l s v.brought v.sizes k q b ≡ after
-  lent_added e = λ i. with_pending l (unless-done q l.bytes after.bytes e i) (unless-done q l.lens after.lens e i)
+  lent_added e = λ i. with_pending l (unless_done q l.bytes after.bytes e i) (unless_done q l.lens after.lens e i)
 
   pub add_taken : (z : SizedStore s) → StoreForm g l s → form.Given v.brought v.sizes k → (t : Y.Variables) (dop : D.DiskOp)
       → Allowed g format limits (seen g l s) t (MachineStep dop (Source (AdvanceStep es))) → Within g limits t (MachineStep dop (Source (AdvanceStep es)))
@@ -62,7 +62,7 @@ module _ (g : Geometry) (l : Lent) (v : Given) (s : Store) (k : ℕ) where
   unfolding ask_picture step_answer_with step_lent_with both ask_both
   add_taken z f h t dop a w =
       let c =
-      clauses_advance g (machine_lent l) s.machine v.brought v.sizes k f.machine_lent f.machine h w.arguments t.machine dop a.step.machine w.machine in
+      clauses_advance g (machine_lent l) s.machine v.brought v.sizes k f.machine_lent_is f.machine h w.arguments t.machine dop a.step.machine w.machine in
       let disk : (seen g l s).disk ≡ t.disk = disk_same g (seen g l s).disk t.disk dop c.2 a.step.disk in
       let machine : (seen g after next).machine ≡ t.machine = c.1 in (
         taken_asked g l s z f a.meets t (step.Advance k) v op.NoDiskOp next after

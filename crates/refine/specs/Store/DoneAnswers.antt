@@ -71,16 +71,16 @@ module _ (g : Geometry) (l : Lent) (s : Store) (z : SizedStore s) (f : StoreForm
       unawaited o e = subst (λ (x : D.DiskOp). Awaited (seen g l s).machine x → ⊥) e a.step.machine.unawaited
 
       go : M.NoOpOp (seen g l s).machine dop → Done g l s t (MachineStep dop (Source NoOpStep))
-      go (M.NoOpOp.no_op e) =
+      go (M.NoOpOp.no_op_is e) =
           subst
           (λ (x : D.DiskOp).
           Allowed g format limits (seen g l s) t (MachineStep x (Source NoOpStep)) → Within g limits t (MachineStep x (Source NoOpStep)) → Done g l s t (MachineStep x (Source NoOpStep)))
           (sym e) (quiet_done g l s z f t) a w
       go (M.NoOpOp.superblock_read_op id which o e) =
           absurd (unawaited (D.RespReadSuperblockOp id which o) e (read_superblock_awaited g (seen g l s) a.meets.joined t.disk id which o (half (D.RespReadSuperblockOp id which o) e)))
-      go (M.NoOpOp.journal_read id o e) =
+      go (M.NoOpOp.journal_read_is id o e) =
           absurd (unawaited (D.RespReadJournalOp id o) e (read_journal_awaited g (seen g l s) a.meets.joined t.disk id o (half (D.RespReadJournalOp id o) e)))
-      go (M.NoOpOp.superblock_written id which e n) =
+      go (M.NoOpOp.superblock_written_is id which e n) =
           absurd (unawaited (D.RespWriteSuperblockOp id which) e (write_superblock_awaited g (seen g l s) a.meets.joined t.disk id which (half (D.RespWriteSuperblockOp id which) e)))
-      go (M.NoOpOp.journal_written id e n) =
+      go (M.NoOpOp.journal_written_is id e n) =
           absurd (unawaited (D.RespWriteJournalOp id) e (write_journal_awaited g (seen g l s) a.meets.joined t.disk id (half (D.RespWriteJournalOp id) e)))

@@ -3,7 +3,7 @@
 use Rattle.std.specs.Prelude.{ℕ, ◌≡◌}
 use Rattle.std.proofs.Common.{sym, ◌∙◌, subst}
 use Rattle.std.proofs.Math.Path.{ap}
-use Rattle.laws.specs.Choice.{and_then_both, asked_yes, unless-done}
+use Rattle.laws.specs.Choice.{and_then_both, asked_yes, unless_done}
 use Rattle.layout.specs.declared.Geometry.{Geometry}
 use Rattle.superblock.specs.declared.DiskOp.{DiskOp}
 use Rattle.source.specs.JournalDisk as D
@@ -31,7 +31,7 @@ module _ (g : Geometry) (l : Lent) (s : Store) (z : SizedStore s) (f : StoreForm
     taken_by p a b e =
         let q : ask_step g l v s x ≡ 0 = and_then_both _ _ p (form_asks g l s z f m) in
         let r : stepped g l v s x ≡ accepted op next = asked_yes (ask_step g l v s x) (step_answer g l v s x) (refused s (ask_step g l v s x)) q ∙ a in
-        let k : stepped_lent g l v s x ≡ after = unless-done (ask_step g l v s x) l (step_lent g l v s x) q ∙ b in
+        let k : stepped_lent g l v s x ≡ after = unless_done (ask_step g l v s x) l (step_lent g l v s x) q ∙ b in
         record { op = op; taken = ap (λ (y : StoreStepped). y.answer) r; next = (λ i. seen g (k i) (r i).store) ∙ e }
 
     -- where one number decides

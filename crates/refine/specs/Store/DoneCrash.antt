@@ -32,7 +32,7 @@ use Rattle.refine.specs.Store.DoneBy.{taken_by}
 module _ (g : Geometry) (l : Lent) (s : Store) where
   -- lent memory after it
   abbrev after : Given → Lent
-  after v = with_journal l (crashed_blocks s.disk.journal_writes v.picture l.blocks) (crashed_marks s.disk.journal_writes v.pictured l.marks)
+  after v = with_journal l (crashed_blocks s.disk.journalWrites v.picture l.blocks) (crashed_marks s.disk.journalWrites v.pictured l.marks)
 
   pub crash_taken : (z : SizedStore s) → StoreForm g l s → (v : Given) → ask_journal g v.picture v.pictured ≡ 0 → (t : Y.Variables)
       → Allowed g format limits (seen g l s) t (CrashStep (cells g v.picture v.pictured)) → TakenTo g l v s step.Crash t

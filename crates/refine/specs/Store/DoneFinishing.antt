@@ -3,7 +3,7 @@ use Rattle.std.specs.Prelude.{ℕ, ◌≡◌}
 use Rattle.std.proofs.Math.Path.{refl}
 use Rattle.std.proofs.Common.{sym, subst}
 use mathlib.Core.List.{[]}
-use Rattle.laws.specs.Choice.{and_then, and_then_both, unless-done}
+use Rattle.laws.specs.Choice.{and_then, and_then_both, unless_done}
 use Rattle.layout.specs.declared.Geometry.{Geometry}
 use Rattle.superblock.specs.declared.DiskOp.TheVariants as op
 use Rattle.codec.specs.Format.{format}
@@ -42,7 +42,7 @@ module _ (g : Geometry) (l : Lent) (s : Store) where
   next = store (finish_loading_other_phase_machine s.machine l.pieces) s.disk
 
   lent_finished : q ≡ 0 → finished_lent l s q ≡ after
-  lent_finished e = λ i. with_replay l (unless-done q l.rbytes after.rbytes e i) (unless-done q l.rlens after.rlens e i)
+  lent_finished e = λ i. with_replay l (unless_done q l.rbytes after.rbytes e i) (unless_done q l.rlens after.rlens e i)
 
   pub finish_other_done : (z : SizedStore s) → StoreForm g l s → (t : Y.Variables) (dop : D.DiskOp)
       → Allowed g format limits (seen g l s) t (MachineStep dop (Source FinishLoadingOtherPhaseStep)) → Within g limits t (MachineStep dop (Source FinishLoadingOtherPhaseStep))
@@ -50,7 +50,7 @@ module _ (g : Geometry) (l : Lent) (s : Store) where
   unfolding ask_picture step_answer_with step_lent_with both ask_both
   finish_other_done z f t dop a w =
       let k = machine_kind_ok g (machine_lent l) s.machine (machine_asked g l s (form_asks g l s z f a.meets)) in
-      let c = clauses_finish_loading_other_phase g (machine_lent l) s.machine f.machine_lent k t.machine dop a.step.machine in
+      let c = clauses_finish_loading_other_phase g (machine_lent l) s.machine f.machine_lent_is k t.machine dop a.step.machine in
       let disk : (seen g l s).disk ≡ t.disk = disk_same g (seen g l s).disk t.disk dop c.1 a.step.disk in
       let machine : (seen g after next).machine ≡ t.machine = c.2 in
       done_asked g l s z f a.meets t (MachineStep dop (Source FinishLoadingOtherPhaseStep)) step.FinishLoadingOtherPhase (given [] [] [] []) op.NoDiskOp next after

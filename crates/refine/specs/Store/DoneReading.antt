@@ -5,7 +5,7 @@ use Rattle.std.proofs.Math.Path.{refl, ap}
 use Rattle.std.proofs.Common.{sym, ◌∙◌, subst, arith, take_all}
 use mathlib.Core.List.{List, []}
 use Rattle.std.proofs.Math.Option.{Option, none, some}
-use Rattle.laws.specs.Choice.{unless-done}
+use Rattle.laws.specs.Choice.{unless_done}
 use Rattle.laws.specs.Cut.{flat, lengths}
 use Rattle.laws.specs.Sets.{is_key, same_value}
 use Rattle.layout.specs.declared.Geometry.{Geometry}
@@ -37,7 +37,7 @@ use Rattle.store.specs.Steps.{read_of, ask_journal_read, read_pieces}
 use Rattle.calls.specs.declared.calls.Step.TheVariants as step
 use Rattle.calls.specs.Given.{given}
 use Rattle.calls.specs.Step.{step_answer_with, step_lent_with, ask_picture}
-use Rattle.refine.specs.Disk.JournalReads.{journal_answered, clauses_read, content_read}
+use Rattle.refine.specs.Disk.JournalReads.{journal_answered_is, clauses_read, content_read}
 use Rattle.refine.specs.Machine.LoadingView.{blocks_in}
 use Rattle.refine.specs.Machine.LoadedBlocks.{flat_blocks, blocks_sized}
 use Rattle.refine.specs.Machine.MachineView.{machine_of}
@@ -59,16 +59,16 @@ module _ (g : Geometry) (l : Lent) (s : Store) (z : SizedStore s) (f : StoreForm
     next whole = store (page_in_journal_resp_machine s.machine id (read_of whole)) (ack_read_journal_next s.disk id)
 
     disk_after : (d : D.Variables) (journal : Option JournalRange) → D.AckReadJournal g (seen g l s).disk d id journal → (whole : Bool) → (seen g (after whole) (next whole)).disk ≡ d
-    disk_after d journal a whole = journal_answered g s.disk id l.blocks l.marks l.pieces z.disk.journal_reads f.tables ∙ sym a.next
+    disk_after d journal a whole = journal_answered_is g s.disk id l.blocks l.marks l.pieces z.disk.journal_reads_is f.tables ∙ sym a.next
 
     -- blocks that go nowhere: it doesn't matter which
     abbrev there : List ℕ
-    there = drop ((held_interval s.disk.journal_reads id).start * 4096) l.blocks
+    there = drop ((held_interval s.disk.journalReads id).start * 4096) l.blocks
 
     elsewhere : (whole : Bool) → seen_after g (machine_lent l) s.machine id (read_of whole) there ≡ (seen g (after whole) (next whole)).machine
     elsewhere whole =
         ap (λ (ps : List ℕ). machine_of g (machine_lent (with_pieces l ps)) (next whole).machine)
-        (nothing_taken (paged_in g s.machine id (read_of whole)) (held_interval s.disk.journal_reads id) l.blocks l.pieces)
+        (nothing_taken (paged_in g s.machine id (read_of whole)) (held_interval s.disk.journalReads id) l.blocks l.pieces)
 
   -- what an answer of the source brings
   module _ (meets : SystemMeets g limits (seen g l s)) (id : ℕ) (d : D.Variables) where
@@ -76,8 +76,8 @@ module _ (g : Geometry) (l : Lent) (s : Store) (z : SizedStore s) (f : StoreForm
       contiguous : ContiguousJournalInterval g a.ind
       contiguous = meets.disk.shape.reads_contiguous id a.ind a.waiting
 
-      is_held : held_interval s.disk.journal_reads id ≡ a.ind
-      is_held = held_is s.disk.journal_reads id a.ind a.waiting
+      is_held : held_interval s.disk.journalReads id ≡ a.ind
+      is_held = held_is s.disk.journalReads id a.ind a.waiting
 
       held_size : length (held g a.ind l.blocks) ≡ a.ind.len * 4096
       held_size = held_length g a.ind l.blocks f.disk_lent.blocks_right contiguous
@@ -85,8 +85,8 @@ module _ (g : Geometry) (l : Lent) (s : Store) (z : SizedStore s) (f : StoreForm
       -- its blocks, and their bytes
       held_range : jr ≡ blocks_in a.ind.len (held g a.ind l.blocks)
       held_range =
-          let size = f.machine_lent.pieces_lent in
-          let u : JournalInterval = held_interval s.disk.journal_reads id in
+          let size = f.machine_lent_is.pieces_lent in
+          let u : JournalInterval = held_interval s.disk.journalReads id in
           let e : some (cells.blocks_in u.len (read_out true u l.blocks l.pieces)) ≡ some jr =
           content_read g s.disk id l.blocks l.marks l.pieces z.disk f.disk_lent meets.disk (some jr) d a size in
           let k : cells.blocks_in u.len (read_out true u l.blocks l.pieces) ≡ jr = same_value {o = some (cells.blocks_in u.len (read_out true u l.blocks l.pieces))} refl e in
@@ -107,7 +107,7 @@ module _ (g : Geometry) (l : Lent) (s : Store) (z : SizedStore s) (f : StoreForm
   awaited_piece : SystemMeets g limits (seen g l s) → (d : D.Variables) (dop : D.DiskOp) → D.Next g (seen g l s).disk d dop → AwaitedPiece g (seen g l s).machine dop
   awaited_piece meets d dop h id jr v e q =
       let a : D.AckReadJournal g (seen g l s).disk d id (some jr) = subst (D.Next g (seen g l s).disk d) e h in
-      let same : a.ind ≡ v = same_value a.waiting (ap (λ (m : ℕ → Option JournalInterval). m id) meets.joined.journal_reads ∙ q) in
+      let same : a.ind ≡ v = same_value a.waiting (ap (λ (m : ℕ → Option JournalInterval). m id) meets.joined.journal_reads_is ∙ q) in
       subst (λ (u : JournalInterval). lengths jr ≡ replicate u.len 4096) same (sized_range meets id d jr a)
 
   -- the call of an answer whose machine's half is seen
@@ -119,13 +119,13 @@ module _ (g : Geometry) (l : Lent) (s : Store) (z : SizedStore s) (f : StoreForm
     unfolding ask_picture step_answer_with step_lent_with ask_journal_read
     answer_done whole dop y journal w a machine tied =
         let q : ask_journal_read s id whole l.marks ≡ 0 =
-        ap (λ (x : Bool). ask_ack_read_journal s.disk.journal_reads id x l.marks) (sym w)
+        ap (λ (x : Bool). ask_ack_read_journal s.disk.journalReads id x l.marks) (sym w)
         ∙ clauses_read g s.disk id l.blocks l.marks l.pieces z.disk f.disk_lent meets.disk journal t.disk a in
         let disk : (seen g (after id whole) (next id whole)).disk ≡ t.disk = disk_after id t.disk journal a whole in
         done_asked g l s z f meets t (MachineStep dop y) (step.PageInJournalResp id whole) (given [] [] [] []) (page_in_journal_resp_op id (read_of whole))
         (next id whole) (after id whole) tied
         refl (ask_journal_read s id whole l.marks) q refl
-        (ap (with_pieces l) (unless-done (ask_journal_read s id whole l.marks) l.pieces (read_pieces g s id whole l.blocks l.pieces) q))
+        (ap (with_pieces l) (unless_done (ask_journal_read s id whole l.marks) l.pieces (read_pieces g s id whole l.blocks l.pieces) q))
         (λ i. record { machine = machine i; disk = disk i })
 
   -- awaited and whole
@@ -135,7 +135,7 @@ module _ (g : Geometry) (l : Lent) (s : Store) (z : SizedStore s) (f : StoreForm
   paged_done t dop which a w =
       let meets = a.meets in
       let c =
-      clauses_whole g (machine_lent l) s.machine f.machine_lent f.machine.kind meets.machine t.machine dop a.step.machine
+      clauses_whole g (machine_lent l) s.machine f.machine_lent_is f.machine.kind meets.machine t.machine dop a.step.machine
       (awaited_piece meets t.disk dop a.step.disk) in
       let id : ℕ = c.0 in
       let jr : JournalRange = c.1 in
@@ -143,10 +143,10 @@ module _ (g : Geometry) (l : Lent) (s : Store) (z : SizedStore s) (f : StoreForm
       let p : Paged = paged_in g s.machine id read.Whole in
       let long : p.len ≡ k.ind.len =
       paged_len g (machine_lent l) s.machine id k.ind (machine_asked g l s (form_asks g l s z f meets))
-      (sym (ap (λ (m : ℕ → Option JournalInterval). m id) meets.joined.journal_reads) ∙ k.waiting) in
+      (sym (ap (λ (m : ℕ → Option JournalInterval). m id) meets.joined.journal_reads_is) ∙ k.waiting) in
       let taken : paged_pieces p (flat jr) l.pieces ≡ (after id true).pieces =
       ap (λ (bytes : List ℕ). paged_pieces p bytes l.pieces) (flat_range meets id t.disk jr k)
-      ∙ piece_takes g k.ind l.blocks f.disk_lent.blocks_right (contiguous meets id t.disk jr k) p (held_interval s.disk.journal_reads id) l.pieces long
+      ∙ piece_takes g k.ind l.blocks f.disk_lent.blocks_right (contiguous meets id t.disk jr k) p (held_interval s.disk.journalReads id) l.pieces long
       (is_held meets id t.disk jr k) in
       let machine : (seen g (after id true) (next id true)).machine ≡ t.machine =
       sym (ap (λ (ps : List ℕ). machine_of g (machine_lent (with_pieces l ps)) (next id true).machine) taken) ∙ c.4 in

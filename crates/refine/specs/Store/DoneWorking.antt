@@ -39,7 +39,7 @@ use Rattle.refine.specs.Store.Doing.{nothing, bringing, tied_op, tied_bringing, 
 
 -- the slot of a commit is there
 commit_in : (r : Ready) → commit_slot r ≤ 1
-commit_in r = go (eqb r.which_superblock 0)
+commit_in r = go (eqb r.whichSuperblock 0)
   where
     go : (b : Bool) → cond b 1 0 ≤ 1
     go true = omega arith

@@ -18,7 +18,7 @@ use Rattle.source.specs.JournalSystem as Y
 use Rattle.source.specs.Limits.{limits, DiskCounts}
 use Rattle.source.specs.Departures.{Source, MachineStep, Allowed}
 use Rattle.source.specs.Within.{Within}
-use Rattle.source.specs.Laws.Unique.{recv_write_journal_one}
+use Rattle.source.proofs.Laws.Unique.{recv_write_journal_one}
 use Rattle.history.specs.Ledger as ledger
 use Rattle.history.specs.Statement.{Tied, tied_write}
 use Rattle.machine.specs.Questions.{bodies_of}
@@ -57,15 +57,15 @@ module _ (g : Geometry) (l : Lent) (s : Store) where
   -- the disk's half
   module _ (z : SizedStore s) (met : StoreMet g l s z) (id1 : ℕ) (id2 : MaybeId) (a : ask_write_back_journal_req_step g s.machine id1 id2 b ≡ 0) (d' : D.Variables)
       (h : D.Next g (seen g l s).disk d' (asked id1 id2 (range g l nothing s id1 id2))) where
-    received_asked : DiskCounts limits d' → ask_recv_write_journal g s.disk.journal_writes id1 id2 at ≡ 0
+    received_asked : DiskCounts limits d' → ask_recv_write_journal g s.disk.journalWrites id1 id2 at ≡ 0
     received_asked few =
-        new_blocks_rows g s.disk.journal_writes id1 id2 at (encode (es g l nothing s id1 id2))
+        new_blocks_rows g s.disk.journalWrites id1 id2 at (encode (es g l nothing s id1 id2))
         (disk.clauses_write g s.disk id1 id2 at (encode (es g l nothing s id1 id2)) l.blocks l.marks z.disk met.disk.tables (long g l nothing s id1 id2 z met a) d'
         (subst (λ (x : Option ℕ × JournalRange). D.RecvWriteJournal g (seen g l s).disk d' id1 x.0 (record { start = at.start; journal = x.1 }))
         (λ i. (sym (same_id id2) i, sym (range_is g l nothing s id1 id2 z met a) i)) h)
         few.journal_writes_few)
 
-    disk_after : ask_recv_write_journal g s.disk.journal_writes id1 id2 at ≡ 0 → (seen g (after g l nothing s id1 id2) (next g l nothing s id1 id2)).disk ≡ d'
+    disk_after : ask_recv_write_journal g s.disk.journalWrites id1 id2 at ≡ 0 → (seen g (after g l nothing s id1 id2) (next g l nothing s id1 id2)).disk ≡ d'
     disk_after d =
         recv_write_journal_one g (seen g l s).disk (seen g (after g l nothing s id1 id2) (next g l nothing s id1 id2)).disk d' id1 (id_of id2)
         (record { start = at.start; journal = range g l nothing s id1 id2 }) (received g l nothing s id1 id2 z met a d) h
@@ -86,7 +86,7 @@ module _ (g : Geometry) (l : Lent) (s : Store) where
       let h : D.Next g (seen g l s).disk t.disk (asked id1 id2 (range g l nothing s id1 id2)) = subst (D.Next g (seen g l s).disk t.disk) same y.step.disk in
       let d = received_asked z met id1 id2 a t.disk h w.disk in
       let q : ℕ = ask_write_back_journal_req_step g s.machine id1 id2 b in
-      let r : ℕ = ask_recv_write_journal g s.disk.journal_writes id1 id2 at in
+      let r : ℕ = ask_recv_write_journal g s.disk.journalWrites id1 id2 at in
       let yes : and_then q r ≡ 0 = and_then_both q r a d in
       let machine : (seen g (after g l nothing s id1 id2) (next g l nothing s id1 id2)).machine ≡ t.machine = c.3 in
       let disk : (seen g (after g l nothing s id1 id2) (next g l nothing s id1 id2)).disk ≡ t.disk = disk_after z met id1 id2 a t.disk h d in

@@ -3,7 +3,7 @@
 use Rattle.std.specs.Prelude.{ℕ, ◌≤◌, Bool, true, false, cond, ◌≡◌, refl, List, eqb}
 use Rattle.std.proofs.Common.{sym, ◌∙◌, ap, arith, eq-eqb, ne_eqb, eqb-true}
 use Rattle.std.proofs.Math.Option.{Option, none, some, some-injective}
-use Rattle.laws.specs.Choice.{split-eq, ruin, true-false, false-true}
+use Rattle.laws.specs.Choice.{split_eq, ruin, true_false, false_true}
 use Rattle.laws.specs.Sets.{Map, Ids}
 use Rattle.superblock.specs.declared.Superblock.{Superblock}
 use Rattle.tables.specs.IdTable.{id_set}
@@ -19,8 +19,8 @@ use Rattle.refine.specs.Machine.ReadyView.{ReadyLent, location_of, slot_of, writ
 -- the machines' records with their memories and sync requests
 pub record SameReady (l : ReadyLent) (y : Map SyncReqStatus) (r : Ready) (k : ReadyLent) (x : Map SyncReqStatus) (q : Ready) : Type 0 where
   pub superblock : r.superblock ≡ q.superblock
-  pub which_superblock : r.which_superblock ≡ q.which_superblock
-  pub written_journal_len : r.written_journal_len ≡ q.written_journal_len
+  pub whichSuperblock : r.whichSuperblock ≡ q.whichSuperblock
+  pub writtenJournalLen : r.writtenJournalLen ≡ q.writtenJournalLen
   pub frozen : r.frozen ≡ q.frozen
   pub commit : r.commit ≡ q.commit
   pub outstanding_journal_writes : id_set r.writes ≡ id_set q.writes
@@ -29,11 +29,11 @@ pub record SameReady (l : ReadyLent) (y : Map SyncReqStatus) (r : Ready) (k : Re
   pub replay_journal : replay_of l r.entries ≡ replay_of k q.entries
   pub sync_reqs : y ≡ x
 
-same_location : (a b : MaybeLocation) → location_of a ≡ location_of b → a ≡ b
-same_location NoLocation NoLocation e = refl
-same_location NoLocation (Received loc) e = ruin (cc)
-same_location (Received loc) NoLocation e = ruin (cc)
-same_location (Received loc) (Received other) e = ap Received (some-injective loc other e)
+same_location_is : (a b : MaybeLocation) → location_of a ≡ location_of b → a ≡ b
+same_location_is NoLocation NoLocation e = refl
+same_location_is NoLocation (Received loc) e = ruin (cc)
+same_location_is (Received loc) NoLocation e = ruin (cc)
+same_location_is (Received loc) (Received other) e = ap Received (some-injective loc other e)
 
 same_commit : (a b : Commit) → write_of a ≡ write_of b → status_of a ≡ status_of b → new_of a ≡ new_of b → a ≡ b
 same_commit commit.CommitNone commit.CommitNone w t n = refl
@@ -51,39 +51,39 @@ same_commit (commit.CommitAdvanceLocation id new) (commit.CommitAdvanceLocation 
 -- of numbers that question 2 lets through the slot is the number
 same_slot : (a b : ℕ) → a ≤ 1 → b ≤ 1 → slot_of a ≡ slot_of b → a ≡ b
 same_slot a b ha hb e =
-    split-eq a 1
+    split_eq a 1
     (λ h. h ∙ sym (eqb-true b 1 (sym e ∙ eq-eqb a 1 h)))
-    (λ f. split-eq b 1 (λ h. absurd (f (eqb-true a 1 (e ∙ eq-eqb b 1 h)))) (λ k. omega arith))
+    (λ f. split_eq b 1 (λ h. absurd (f (eqb-true a 1 (e ∙ eq-eqb b 1 h)))) (λ k. omega arith))
 
 module _ (l : ReadyLent) (y : Map SyncReqStatus) (r : Ready) (k : ReadyLent) (x : Map SyncReqStatus) (q : Ready) where
   pub same_seen : SameReady l y r k x q → ready_of l y r ≡ ready_of k x q
   same_seen s =
       λ i.
       record {
-        frozen_loc = location_of (s.frozen i).frozen_loc;
-        is_frozen = (s.frozen i).is_frozen;
-        frozen_journal_position = (s.frozen i).frozen_journal_position;
+        frozenLoc = location_of (s.frozen i).frozenLoc;
+        isFrozen = (s.frozen i).isFrozen;
+        frozenJournalPosition = (s.frozen i).frozenJournalPosition;
         superblock_write = write_of (s.commit i);
         in_memory_journal_frozen = s.in_memory_journal_frozen i;
         in_memory_journal = s.in_memory_journal i;
         outstanding_journal_writes = s.outstanding_journal_writes i;
-        written_journal_len = s.written_journal_len i;
+        writtenJournalLen = s.writtenJournalLen i;
         replay_journal = s.replay_journal i;
         superblock = s.superblock i;
-        which_superblock = slot_of (s.which_superblock i);
+        whichSuperblock = slot_of (s.whichSuperblock i);
         commit_status = status_of (s.commit i);
         new_superblock = new_of (s.commit i);
         sync_reqs = s.sync_reqs i;
       }
 
-  pub seen_same : r.which_superblock ≤ 1 → q.which_superblock ≤ 1 → ready_of l y r ≡ ready_of k x q → SameReady l y r k x q
+  pub seen_same : r.whichSuperblock ≤ 1 → q.whichSuperblock ≤ 1 → ready_of l y r ≡ ready_of k x q → SameReady l y r k x q
   seen_same a b e =
-      let loc = same_location r.frozen.frozen_loc q.frozen.frozen_loc (ap (λ (v : ReadyVariables). v.frozen_loc) e) in
+      let loc = same_location_is r.frozen.frozenLoc q.frozen.frozenLoc (ap (λ (v : ReadyVariables). v.frozenLoc) e) in
       record {
         superblock = ap (λ (v : ReadyVariables). v.superblock) e;
-        which_superblock = same_slot r.which_superblock q.which_superblock a b (ap (λ (v : ReadyVariables). v.which_superblock) e);
-        written_journal_len = ap (λ (v : ReadyVariables). v.written_journal_len) e;
-        frozen = λ i. record { is_frozen = (e i).is_frozen; frozen_journal_position = (e i).frozen_journal_position; frozen_loc = loc i };
+        whichSuperblock = same_slot r.whichSuperblock q.whichSuperblock a b (ap (λ (v : ReadyVariables). v.whichSuperblock) e);
+        writtenJournalLen = ap (λ (v : ReadyVariables). v.writtenJournalLen) e;
+        frozen = λ i. record { isFrozen = (e i).isFrozen; frozenJournalPosition = (e i).frozenJournalPosition; frozenLoc = loc i };
         commit =
             same_commit r.commit q.commit (ap (λ (v : ReadyVariables). v.superblock_write) e) (ap (λ (v : ReadyVariables). v.commit_status) e)
             (ap (λ (v : ReadyVariables). v.new_superblock) e);

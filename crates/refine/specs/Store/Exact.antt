@@ -22,7 +22,7 @@ use Rattle.source.specs.Within.{Within}
 use Rattle.history.specs.Ledger as ledger
 use Rattle.history.specs.Ledger.{Call}
 use Rattle.history.specs.Statement.{Tied, tied_add, tied_replay}
-use Rattle.history.specs.Calls.Called.{called_once, nonsense_refused}
+use Rattle.history.proofs.Calls.Called.{called_once, nonsense_refused}
 use Rattle.requests.specs.Laws.Pairs.{which_of}
 use Rattle.store.specs.declared.Store.{Store}
 use Rattle.store.specs.declared.StoreAnswer.{StoreAnswer}

@@ -5,7 +5,7 @@ use Rattle.std.specs.Prelude.{Bool, false, ◌≡◌, refl, List, [], ◌∷◌,
 use Rattle.std.proofs.Math.Bool.{true}
 use Rattle.std.proofs.Common.{sym, ◌∙◌, subst, arith}
 use Rattle.std.proofs.Math.Path.{ap}
-use Rattle.laws.specs.Choice.{true-false, false-true, asked_yes, ruin}
+use Rattle.laws.specs.Choice.{true_false, false_true, asked_yes, ruin}
 use Rattle.laws.specs.Sets.{same_value}
 use Rattle.layout.specs.declared.Geometry.{Geometry}
 use Rattle.layout.specs.declared.Location.{Location}
@@ -13,14 +13,14 @@ use Rattle.codec.specs.Format.{format}
 use Rattle.source.specs.JournalSystem as Y
 use Rattle.source.specs.JournalSystem.{superblock_of_disk}
 use Rattle.source.specs.Limits.{limits}
-use Rattle.source.specs.Laws.Format.{limits_fit}
+use Rattle.source.proofs.Laws.Format.{limits_fit}
 use Rattle.history.specs.Ledger.{Call, Ledger, begin, books}
 use Rattle.history.specs.Statement.{Tied, Ran}
-use Rattle.history.specs.Whole.First.{first_parity}
-use Rattle.history.specs.Whole.Lists.{runs_append}
+use Rattle.history.proofs.Whole.First.{first_parity}
+use Rattle.history.proofs.Whole.Lists.{runs_append}
 use Rattle.history.specs.Driver.{left}
-use Rattle.history.specs.Drive.Most.{left_most}
-use Rattle.history.specs.Drive.Named.{limits_rooms, Loading, driver_named, push_left, pop_left}
+use Rattle.history.proofs.Drive.Most.{left_most}
+use Rattle.history.proofs.Drive.Named.{limits_rooms, Loading, driver_named, push_left, pop_left}
 use Rattle.machine.specs.declared.Kind.{Kind}
 use Rattle.machine.specs.declared.Kind.TheVariants as kind
 use Rattle.machine.specs.declared.Machine.{Machine}
@@ -44,7 +44,7 @@ use Rattle.refine.specs.Store.Reach.{reached_asks, reached_first}
 use Rattle.refine.specs.Store.Runs.{StateReached, run_reached}
 use Rattle.refine.specs.Store.Exact.{plain_taken}
 use Rattle.refine.specs.Store.Names.{loads, names, none_named}
-use Rattle.refine.specs.Store.NewIds.{least_new}
+use Rattle.refine.specs.Store.NewIds.{least_new_is}
 
 -- The statement
 
@@ -94,7 +94,7 @@ seen_loading g l m = go m.kind
     go : (k : Kind) → loads k ≡ true → Loading (machine_of g l (of_kind m k))
     go kind.LoadingSuperblock e = tt
     go kind.LoadingOther e = tt
-    go kind.Ready e = false-true e
+    go kind.Ready e = false_true e
 
 module _ (g : Geometry) (p : ℕ) where
   -- the step that the driver names is taken, and one less is left
@@ -117,9 +117,9 @@ module _ (g : Geometry) (p : ℕ) where
   named_taken s l r k v =
       let w = names g (machine_lent s.lent) v s.store.machine s.store.disk k in
       let x : Step = w.step in
-      let new = least_new g s.lent.blocks s.lent.marks s.store.disk s.sized.disk in
+      let new = least_new_is g s.lent.blocks s.lent.marks s.store.disk s.sized.disk in
       let n =
-      driver_named g format limits limits_fit limits_rooms r.form.machine_lent.geometry p (state_seen g s).machine (state_seen g s).disk l (least_new s.store.disk) r.reached new
+      driver_named g format limits limits_fit limits_rooms r.form.machine_lent_is.geometry p (state_seen g s).machine (state_seen g s).disk l (least_new s.store.disk) r.reached new
       (seen_loading g (machine_lent s.lent) s.store.machine k) in
       let e : n.call ≡ call_of v x = same_value n.named w.heard in
       let t : TakenTo g s.lent v s.store x n.next =
@@ -146,19 +146,19 @@ module _ (g : Geometry) (p : ℕ) where
       go : (k : Kind) → loads k ≡ true → 1 ≤ left g (seen g s.lent (record { machine = of_kind s.store.machine k; disk = s.store.disk }))
       go kind.LoadingSuperblock e = omega arith
       go kind.LoadingOther e = omega arith
-      go kind.Ready e = false-true e
+      go kind.Ready e = false_true e
 
   none_left : (s : State) → loads s.store.machine.kind ≡ false → left g (state_seen g s) ≡ 0
   none_left s = go s.store.machine.kind
     where
       go : (k : Kind) → loads k ≡ false → left g (seen g s.lent (record { machine = of_kind s.store.machine k; disk = s.store.disk })) ≡ 0
-      go kind.LoadingSuperblock e = true-false e
-      go kind.LoadingOther e = true-false e
+      go kind.LoadingSuperblock e = true_false e
+      go kind.LoadingOther e = true_false e
       go kind.Ready e = refl
 
   is_ready : (k : Kind) → loads k ≡ false → k ≡ kind.Ready
-  is_ready kind.LoadingSuperblock e = true-false e
-  is_ready kind.LoadingOther e = true-false e
+  is_ready kind.LoadingSuperblock e = true_false e
+  is_ready kind.LoadingOther e = true_false e
   is_ready kind.Ready e = refl
 
   -- Whole loads

@@ -1,7 +1,7 @@
 -- FinishLoadingOtherPhase: the entries of the loaded blocks lie in replay memory then, and the disk stays.
 use Rattle.std.specs.Prelude.{ℕ, ◌≡◌}
 use Rattle.std.proofs.Math.Path.{refl}
-use Rattle.laws.specs.Choice.{and_then, and_then_left, unless-done}
+use Rattle.laws.specs.Choice.{and_then, and_then_left, unless_done}
 use Rattle.layout.specs.declared.Geometry.{Geometry}
 use Rattle.superblock.specs.declared.DiskOp.{DiskOp}
 use Rattle.superblock.specs.declared.DiskOp.TheVariants as op
@@ -32,7 +32,7 @@ module _ (g : Geometry) (l : Lent) (v : Given) (s : Store) where
   after = with_replay l (loaded_replay_bytes s.machine l.pieces l.rbytes) (loaded_replay_lens s.machine l.pieces l.rlens)
 
   lent_finished : q ≡ 0 → finished_lent l s q ≡ after
-  lent_finished e = λ i. with_replay l (unless-done q l.rbytes after.rbytes e i) (unless-done q l.rlens after.rlens e i)
+  lent_finished e = λ i. with_replay l (unless_done q l.rbytes after.rbytes e i) (unless_done q l.rlens after.rlens e i)
 
   pub finish_other_takes : (z : SizedStore s) → ask_store g l s ≡ 0 → (o : DiskOp) → (finish_other g s l.pieces l.rbytes l.rlens).answer ≡ answer.Next o
       → Takes g format limits (seen g l s) (seen g (finished_lent l s q) (finish_other g s l.pieces l.rbytes l.rlens).store) (call_of v step.FinishLoadingOtherPhase)

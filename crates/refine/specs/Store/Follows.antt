@@ -16,7 +16,7 @@ use Rattle.source.specs.Meets.{SystemMeets}
 use Rattle.history.specs.Ledger as ledger
 use Rattle.history.specs.Ledger.{Call}
 use Rattle.history.specs.Statement.{Takes, Ran}
-use Rattle.history.specs.Calls.Called.{called_once}
+use Rattle.history.proofs.Calls.Called.{called_once}
 use Rattle.requests.specs.Laws.Pairs.{which_of}
 use Rattle.store.specs.declared.StoreAnswer.{StoreAnswer}
 use Rattle.store.specs.declared.StoreAnswer.TheVariants as answer
@@ -151,7 +151,7 @@ module _ (g : Geometry) where
 
   pub follow_taken : (s : State) (x : Call) (t : Y.Variables) → StoreForm g s.lent s.store → Takes g format limits (state_seen g s) t x → Fits g t → Brings x → Taken s x t
   follow_taken s x t f h k b =
-      let w = takes_within g (state_seen g s) t f.machine_lent.geometry k.machine k.disk k.size k.block_size x h b in
+      let w = takes_within g (state_seen g s) t f.machine_lent_is.geometry k.machine k.disk k.size k.block_size x h b in
       let d : Done g s.lent s.store t w.0.event = store_complete g s.lent s.store s.sized f t w.0.event w.0.allowed w.1 in
       record {
         call = record { step = d.call; given = d.given };

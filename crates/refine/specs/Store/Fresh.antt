@@ -1,7 +1,7 @@
 -- The store that `Init` gives: lent memory of its lengths, and two well-formed slots. Questions 1 and 2 are answered yes.
 use Rattle.std.specs.Prelude.{ℕ, ◌≡◌, refl, List}
 use Rattle.std.proofs.Common.{sym, ◌∙◌, ap}
-use Rattle.laws.specs.Sets.{Map, keys, no_keys, no_ids, both, none-some}
+use Rattle.laws.specs.Sets.{Map, keys, no_keys, empty_ids, both, none_some}
 use Rattle.layout.specs.declared.Geometry.{Geometry}
 use Rattle.layout.specs.declared.Location.{Location}
 use Rattle.interval.specs.declared.JournalInterval.{JournalInterval}
@@ -9,14 +9,14 @@ use Rattle.superblock.specs.declared.Superblock.{Superblock}
 use Rattle.superblock.specs.declared.MaybeSuperblock.TheVariants as slot
 use Rattle.superblock.specs.Laws.{WFSuperblock}
 use Rattle.superblock.specs.Superblock.{select_superblock}
-use Rattle.tables.specs.Laws.IdTables.{ids_empty}
-use Rattle.tables.specs.Laws.IntervalTables.{intervals_empty}
+use Rattle.tables.proofs.Laws.IdTables.{ids_empty}
+use Rattle.tables.proofs.Laws.IntervalTables.{intervals_empty}
 use Rattle.journal.specs.Cells.{length_cells}
 use Rattle.journal.specs.Blocks.{cell_size}
 use Rattle.source.specs.JournalSystem as Y
 use Rattle.source.specs.Limits.{limits}
 use Rattle.source.specs.Meets.{Joined, DiskMeets, SystemMeets, awaited_superblock_reads, awaited_journal_reads, awaited_superblock_writes, awaited_journal_writes}
-use Rattle.source.specs.Laws.Initial.{initial_meets}
+use Rattle.source.proofs.Laws.Initial.{initial_meets}
 use Rattle.machine.specs.Machine.{initial_machine}
 use Rattle.requests.specs.declared.Slots.{Slots}
 use Rattle.disk.specs.Disk.{idle_disk}
@@ -41,7 +41,7 @@ fresh_sized slots = record { machine = initial_sized; disk = idle_sized slots }
 
 -- a disk without requests, seen
 pub idle_seen : (g : Geometry) (blocks marks : List ℕ) (slots : Slots)
-    → ((disk_of g blocks marks (idle_disk slots)).req_read_superblocks ≡ both no_ids)
+    → ((disk_of g blocks marks (idle_disk slots)).req_read_superblocks ≡ both empty_ids)
     × ((disk_of g blocks marks (idle_disk slots)).req_read_journals ≡ no_keys)
     × ((disk_of g blocks marks (idle_disk slots)).req_write_journals ≡ no_keys)
 idle_seen g blocks marks slots = ((λ i. record { first = ids_empty i; second = ids_empty i }), intervals_empty, intervals_empty)
@@ -49,7 +49,7 @@ idle_seen g blocks marks slots = ((λ i. record { first = ids_empty i; second = 
 module _ (g : Geometry) (l : Lent) (slots : Slots) where
   pub fresh_form : MachineLent g (machine_lent l) → disk.Lent g l.blocks l.marks → StoreForm g l (fresh slots)
   fresh_form m d =
-      record { machine_lent = m; machine = initial_form (machine_lent l); disk_lent = d; tables = tabled_tables (idle_disk slots) (idle_tabled g slots) }
+      record { machine_lent_is = m; machine = initial_form (machine_lent l); disk_lent = d; tables = tabled_tables (idle_disk slots) (idle_tabled g slots) }
 
   fresh_joined : Y.WFDisk g (disk_of g l.blocks l.marks (idle_disk slots)) → Joined g (seen g l (fresh slots))
   fresh_joined wf =
@@ -57,12 +57,12 @@ module _ (g : Geometry) (l : Lent) (slots : Slots) where
       let k = idle_seen g l.blocks l.marks slots in
       record {
         wf = wf;
-        superblock_reads = k.0 ∙ ap awaited_superblock_reads (sym e);
-        journal_reads = k.1 ∙ ap (awaited_journal_reads g) (sym e);
+        superblock_reads_is = k.0 ∙ ap awaited_superblock_reads (sym e);
+        journal_reads_is = k.1 ∙ ap (awaited_journal_reads g) (sym e);
         superblock_writes = ap awaited_superblock_writes (sym e);
-        journal_writes = ap keys k.2 ∙ ap awaited_journal_writes (sym e);
-        writes_apart = λ id1 id2 v1 v2 p q o. none-some (ap (λ (m : Map JournalInterval). m id1) k.2) p;
-        writes_clear = λ id v p. none-some (ap (λ (m : Map JournalInterval). m id) k.2) p;
+        journal_writes_is = ap keys k.2 ∙ ap awaited_journal_writes (sym e);
+        writes_apart = λ id1 id2 v1 v2 p q o. none_some (ap (λ (m : Map JournalInterval). m id1) k.2) p;
+        writes_clear_is = λ id v p. none_some (ap (λ (m : Map JournalInterval). m id) k.2) p;
       }
 
   fresh_disk : disk.Lent g l.blocks l.marks → DiskMeets g limits (disk_of g l.blocks l.marks (idle_disk slots))
@@ -72,8 +72,8 @@ module _ (g : Geometry) (l : Lent) (slots : Slots) where
         counts = tabled_counts g l.blocks l.marks (idle_disk slots) (idle_sized slots) (idle_tabled g slots);
         shape =
             record {
-              reads_contiguous = λ id v e. none-some (ap (λ (m : Map JournalInterval). m id) k.1) e;
-              writes_contiguous = λ id v e. none-some (ap (λ (m : Map JournalInterval). m id) k.2) e;
+              reads_contiguous = λ id v e. none_some (ap (λ (m : Map JournalInterval). m id) k.1) e;
+              writes_contiguous = λ id v e. none_some (ap (λ (m : Map JournalInterval). m id) k.2) e;
               size = length_cells g.blocks l.blocks l.marks;
               block_size = cell_size g.blocks l.blocks l.marks d.blocks_right.size;
             };

@@ -15,8 +15,8 @@ use Rattle.history.specs.Ledger.{Shown, shown}
 use Rattle.history.specs.Statement as history
 use Rattle.history.specs.Statement.{Takes, Ran, LoadedStore, ledger_of, shows}
 use Rattle.history.specs.Earlier.{Past, ledger_since, no_past}
-use Rattle.history.specs.Demand.{none_blank_loaded, earlier_two_stores}
-use Rattle.history.specs.Whole.Stores.{store_loaded}
+use Rattle.history.proofs.Demand.{none_blank_loaded, earlier_two_stores}
+use Rattle.history.proofs.Whole.Stores.{store_loaded}
 use Rattle.machine.specs.declared.Kind.{Kind}
 use Rattle.machine.specs.declared.Kind.TheVariants as kind
 use Rattle.machine.specs.Machine.{by_kind}
@@ -113,7 +113,7 @@ pub loaded_ready : (g : Geometry) (s : State) (r : M.ReadyVariables) → (state_
 loaded_ready g s r e = ready_at s.store.machine.kind _ _ (ready_seen s) r e
 
 -- A call that is taken leaves the form that records and lent memory add to the view, and a refused one leaves all; so a loaded store has it, and
--- `which_superblock` is 0 or 1.
+-- `whichSuperblock` is 0 or 1.
 module _ (g : Geometry) where
   pub next_formed : (s : State) (x : Made) (t : State) → Promise g s x true t → StoreForm g t.lent t.store
   next_formed s x t p =
@@ -136,7 +136,7 @@ module _ (g : Geometry) where
 
   loaded_which : (first : Y.Variables) (s : State) (calls : List Made) (answers : List Bool) (crashing : Made) (loading : List Made) (loaded : List Bool) (r : M.ReadyVariables)
       → (h : LoadedStore (code_store g) first s calls answers crashing loading loaded r) → h.end.store.machine.kind ≡ kind.Ready
-      → h.end.store.machine.ready.which_superblock ≤ 1
+      → h.end.store.machine.ready.whichSuperblock ≤ 1
   loaded_which first s calls answers crashing loading loaded r h e =
       (work_form g (machine_lent h.end.lent) h.end.store.machine e
       (run_formed h.after h.end loading loaded (next_formed h.before crashing h.after h.crashed) h.load).machine).which_in

@@ -32,4 +32,4 @@ module _ (g : Geometry) (l : Lent) (v : Given) (s : Store) where
   pub own_crash_lent : stepped_lent g l v s step.CrashInPlace ≡ stepped_lent g l (own_picture l v) s step.Crash
   unfolding stepped_lent step_lent_with
   own_crash_lent =
-      λ i. unless (own_asks i) l (with_journal l (sym (own_blocks s.disk.journal_writes l.blocks) i) (sym (own_marks s.disk.journal_writes l.marks) i))
+      λ i. unless (own_asks i) l (with_journal l (sym (own_blocks s.disk.journalWrites l.blocks) i) (sym (own_marks s.disk.journalWrites l.marks) i))

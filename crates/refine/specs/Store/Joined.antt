@@ -5,7 +5,7 @@ use Rattle.std.specs.Prelude.{true, not, cond, ◌≡◌, List, eqb}
 use Rattle.std.proofs.Math.Path.{refl, sym, ap}
 use Rattle.std.proofs.Common.{◌∙◌, arith}
 use Rattle.std.proofs.Math.Option.{Option, none, some, some-injective}
-use Rattle.laws.specs.Choice.{also_left, also_right, also_both, false-true, ruin}
+use Rattle.laws.specs.Choice.{also_left, also_right, also_both, false_true, ruin}
 use Rattle.laws.specs.Sets.{Map, no_keys, ids_of, Two, both, put, each_of}
 use Rattle.layout.specs.declared.Geometry.{Geometry}
 use Rattle.interval.specs.declared.JournalInterval.{JournalInterval}
@@ -17,8 +17,8 @@ use Rattle.superblock.specs.Superblock.{journal_front_interval_of_superblock, jo
 use Rattle.superblock.specs.Laws.{WFSuperblock, superblock_facts, facts_superblock}
 use Rattle.tables.specs.Rows.{Counted}
 use Rattle.tables.specs.IdTable.{id_set, added_id}
-use Rattle.tables.specs.Laws.IdTables.{ids_empty}
-use Rattle.tables.specs.Laws.IntervalTables.{same_facts, facts_same}
+use Rattle.tables.proofs.Laws.IdTables.{ids_empty}
+use Rattle.tables.proofs.Laws.IntervalTables.{same_facts, facts_same}
 use Rattle.loading.specs.declared.SlotRead.{SlotRead}
 use Rattle.loading.specs.declared.SlotRead.TheVariants as slot_read
 use Rattle.loading.specs.declared.Piece.{Piece}
@@ -42,8 +42,8 @@ use Rattle.joined.specs.declared.Awaited.{Awaited}
 use Rattle.joined.specs.Awaited.{slot_ids, piece_awaited, pieces_awaited, commit_write, commit_writes, superblocks_await, other_awaits, ready_awaits, awaited_by}
 use Rattle.joined.specs.Apart.{slot_wf, slots_wf, rows_clear, selected_interval, clear_by, writes_clear}
 use Rattle.joined.specs.Joined.{joined_by, joined_ok}
-use Rattle.joined.specs.Laws.Held.{reads_facts, facts_reads, read_bound, awaited_map, ReadsDiffer, journal_reads_facts, facts_journal_reads, writes_facts, facts_writes}
-use Rattle.joined.specs.Laws.Apart.{apart_facts, facts_apart, clear_facts, facts_clear}
+use Rattle.joined.proofs.Laws.Held.{reads_facts, facts_reads, read_bound, awaited_map, ReadsDiffer, journal_reads_facts, facts_journal_reads, writes_facts, facts_writes}
+use Rattle.joined.proofs.Laws.Apart.{apart_facts, facts_apart, clear_facts, facts_clear}
 use Rattle.refine.specs.Disk.View.{superblock_in, write_in, disk_of, SizedDisk}
 use Rattle.refine.specs.Disk.Meets.{counted_own, Met}
 use Rattle.refine.specs.Machine.LoadingView.{outstanding_read, awaited_read}
@@ -55,12 +55,12 @@ use Rattle.refine.specs.Store.View.{store_of}
 -- What the machine awaits
 
 -- a slot's read
-slot_awaits : (s : SlotRead) → id_set (slot_ids s) ≡ one_id (outstanding_read s)
+slot_awaits_is : (s : SlotRead) → id_set (slot_ids s) ≡ one_id (outstanding_read s)
 unfolding added_id ids_of
-slot_awaits slot_read.Unasked = refl
-slot_awaits (slot_read.Awaited id) = refl
-slot_awaits (slot_read.Success superblock) = refl
-slot_awaits slot_read.Corruption = refl
+slot_awaits_is slot_read.Unasked = refl
+slot_awaits_is (slot_read.Awaited id) = refl
+slot_awaits_is (slot_read.Success superblock) = refl
+slot_awaits_is slot_read.Corruption = refl
 
 -- a piece's read
 piece_awaits : (p : Piece) (o : Option JournalInterval) (m : Map JournalInterval) → read_bound (piece_awaited p (maybe_interval o)) m ≡ bind_read (awaited_read p) o m
@@ -69,11 +69,11 @@ piece_awaits (piece.Reading id) none m = refl
 piece_awaits (piece.Reading id) (some v) m = refl
 piece_awaits piece.In o m = refl
 
-piece_read : (p : Piece) (o : Option JournalInterval) (id : ℕ) (v : JournalInterval) → piece_awaited p (maybe_interval o) ≡ read.Reading id v → awaited_read p ≡ some id
-piece_read piece.Unread o id v e = ruin (cc)
-piece_read (piece.Reading k) none id v e = ruin (cc)
-piece_read (piece.Reading k) (some w) id v e = cc
-piece_read piece.In o id v e = ruin (cc)
+piece_read_is : (p : Piece) (o : Option JournalInterval) (id : ℕ) (v : JournalInterval) → piece_awaited p (maybe_interval o) ≡ read.Reading id v → awaited_read p ≡ some id
+piece_read_is piece.Unread o id v e = ruin (cc)
+piece_read_is (piece.Reading k) none id v e = ruin (cc)
+piece_read_is (piece.Reading k) (some w) id v e = cc
+piece_read_is piece.In o id v e = ruin (cc)
 
 -- a commit's write, to the other slot
 commit_awaits : (c : Commit) → write_in (commit_write c) ≡ new_write (write_of c) (new_of c)
@@ -82,28 +82,28 @@ commit_awaits (commit.CommitAdvanceLog id new) = refl
 commit_awaits (commit.CommitAdvanceLocation id new) = refl
 
 module _ (g : Geometry) (l : Lent) where
-  superblock_reads_await : (m : Machine) → each_of id_set (read_pair (awaited_by g m).superblock_reads) ≡ awaited_superblock_reads (machine_of g l m)
+  superblock_reads_await : (m : Machine) → each_of id_set (read_pair (awaited_by g m).superblockReads) ≡ awaited_superblock_reads (machine_of g l m)
   unfolding awaited_by superblocks_await other_awaits ready_awaits
   superblock_reads_await m =
-      by_kind_is (λ m. each_of id_set (read_pair (awaited_by g m).superblock_reads) ≡ awaited_superblock_reads (machine_of g l m)) m
-      (λ i. record { first = slot_awaits m.superblocks.first i; second = slot_awaits m.superblocks.second i })
+      by_kind_is (λ m. each_of id_set (read_pair (awaited_by g m).superblockReads) ≡ awaited_superblock_reads (machine_of g l m)) m
+      (λ i. record { first = slot_awaits_is m.superblocks.first i; second = slot_awaits_is m.superblocks.second i })
       (λ i. record { first = ids_empty i; second = ids_empty i })
       (λ i. record { first = ids_empty i; second = ids_empty i })
 
-  journal_reads_await : (m : Machine) → awaited_map (awaited_by g m).journal_reads ≡ awaited_journal_reads g (machine_of g l m)
+  journal_reads_await : (m : Machine) → awaited_map (awaited_by g m).journalReads ≡ awaited_journal_reads g (machine_of g l m)
   unfolding awaited_by superblocks_await other_awaits ready_awaits pieces_awaited
   journal_reads_await m =
-      by_kind_is (λ m. awaited_map (awaited_by g m).journal_reads ≡ awaited_journal_reads g (machine_of g l m)) m
+      by_kind_is (λ m. awaited_map (awaited_by g m).journalReads ≡ awaited_journal_reads g (machine_of g l m)) m
       refl
       (ap (read_bound (piece_awaited m.other.front (front_of g m.other.superblock))) (piece_awaits m.other.back (journal_back_interval_of_superblock g m.other.superblock) no_keys)
       ∙ piece_awaits m.other.front (journal_front_interval_of_superblock g m.other.superblock)
       (bind_read (awaited_read m.other.back) (journal_back_interval_of_superblock g m.other.superblock) no_keys))
       refl
 
-  journal_writes_await : (m : Machine) → id_set (awaited_by g m).journal_writes ≡ awaited_journal_writes (machine_of g l m)
+  journal_writes_await : (m : Machine) → id_set (awaited_by g m).journalWrites ≡ awaited_journal_writes (machine_of g l m)
   unfolding awaited_by superblocks_await other_awaits ready_awaits
   journal_writes_await m =
-      by_kind_is (λ m. id_set (awaited_by g m).journal_writes ≡ awaited_journal_writes (machine_of g l m)) m
+      by_kind_is (λ m. id_set (awaited_by g m).journalWrites ≡ awaited_journal_writes (machine_of g l m)) m
       ids_empty
       ids_empty
       refl
@@ -122,18 +122,18 @@ module _ (g : Geometry) (l : Lent) where
       by_kind_is (λ m. MachineMet g l m → each_of write_in (write_pair (awaited_by g m).superblockWrites) ≡ awaited_superblock_writes (machine_of g l m)) m
       (λ h. refl)
       (λ h. refl)
-      (λ h. commit_writes_await m.ready.which_superblock m.ready.commit h.form.kind.which_in)
+      (λ h. commit_writes_await m.ready.whichSuperblock m.ready.commit h.form.kind.which_in)
 
   -- the two journal reads differ
-  reads_differ : (m : Machine) → MachineMet g l m → ReadsDiffer (awaited_by g m).journal_reads
+  reads_differ : (m : Machine) → MachineMet g l m → ReadsDiffer (awaited_by g m).journalReads
   unfolding awaited_by superblocks_await other_awaits ready_awaits pieces_awaited
   reads_differ m =
-      by_kind_is (λ m. MachineMet g l m → ReadsDiffer (awaited_by g m).journal_reads) m
+      by_kind_is (λ m. MachineMet g l m → ReadsDiffer (awaited_by g m).journalReads) m
       (λ h id v w p q. ruin (cc))
       (λ h id v w p q.
       h.meets.shape.reads_differ id
-      (piece_read m.other.front (journal_front_interval_of_superblock g m.other.superblock) id v p)
-      (piece_read m.other.back (journal_back_interval_of_superblock g m.other.superblock) id w q))
+      (piece_read_is m.other.front (journal_front_interval_of_superblock g m.other.superblock) id v p)
+      (piece_read_is m.other.back (journal_back_interval_of_superblock g m.other.superblock) id w q))
       (λ h id v w p q. ruin (cc))
 
 -- What the disk holds
@@ -166,7 +166,7 @@ record SlotHolds (g : Geometry) (x : MaybeSuperblock) : Type 0 where
 
 slot_facts : (g : Geometry) (x : MaybeSuperblock) → slot_wf g x ≡ true → SlotHolds g x
 slot_facts g (slot.Holds s) e = record { value = s; holds = refl; wf = superblock_facts g s e }
-slot_facts g slot.Empty e = false-true e
+slot_facts g slot.Empty e = false_true e
 
 facts_slot : (g : Geometry) (x : MaybeSuperblock) → SlotHolds g x → slot_wf g x ≡ true
 facts_slot g x h = ap (slot_wf g) h.holds ∙ facts_superblock g h.value h.wf
@@ -198,9 +198,9 @@ module _ (g : Geometry) (blocks marks : List ℕ) (d : Disk) where
 
   -- where both slots hold a superblock, the selected interval is theirs
   cleared : (a : SlotHolds g d.slots.first) (b : SlotHolds g d.slots.second)
-      → writes_clear g d.slots d.journal_writes ≡ rows_clear g (selected_interval a.value b.value) d.journal_writes
+      → writes_clear g d.slots d.journalWrites ≡ rows_clear g (selected_interval a.value b.value) d.journalWrites
   unfolding writes_clear
-  cleared a b = λ i. clear_by g (a.holds i) (b.holds i) d.journal_writes
+  cleared a b = λ i. clear_by g (a.holds i) (b.holds i) d.journalWrites
 
 -- Question 2 of a system: of a yes the machine's own question is needed for `which`, of the way back the disk's too, for ids that differ
 module _ (g : Geometry) (l : Lent) (blocks marks : List ℕ) (m : Machine) (d : Disk) (z : SizedDisk d) (h : MachineMet g l m) where
@@ -219,18 +219,18 @@ module _ (g : Geometry) (l : Lent) (blocks marks : List ℕ) (m : Machine) (d : 
       let held = slots_held g blocks marks d (also_left _ _ e) in
       record {
         wf = wf_of g blocks marks d held.0 held.1;
-        superblock_reads = reads_facts a.superblock_reads d.superblock_reads (also_left _ _ e1) ∙ superblock_reads_await g l m;
-        journal_reads = journal_reads_facts a.journal_reads d.journal_reads z.journal_reads (also_left _ _ e2) ∙ journal_reads_await g l m;
+        superblock_reads_is = reads_facts a.superblockReads d.superblockReads (also_left _ _ e1) ∙ superblock_reads_await g l m;
+        journal_reads_is = journal_reads_facts a.journalReads d.journalReads z.journal_reads_is (also_left _ _ e2) ∙ journal_reads_await g l m;
         superblock_writes = ap (λ (w : SuperblockWrites). each_of write_in (write_pair w)) (writes_facts a.superblockWrites d.superblockWrites (also_left _ _ e3))
             ∙ superblock_writes_await g l m h;
-        journal_writes = same_facts d.journal_writes z.journal_writes a.journal_writes (also_left _ _ e4) ∙ journal_writes_await g l m;
-        writes_apart = apart_facts d.journal_writes (also_left _ _ e5);
-        writes_clear = clear_facts d.journal_writes g (selected_interval held.0.value held.1.value) (sym (cleared g blocks marks d held.0 held.1) ∙ e6);
+        journal_writes_is = same_facts d.journalWrites z.journal_writes_is a.journalWrites (also_left _ _ e4) ∙ journal_writes_await g l m;
+        writes_apart = apart_facts d.journalWrites (also_left _ _ e5);
+        writes_clear_is = clear_facts d.journalWrites g (selected_interval held.0.value held.1.value) (sym (cleared g blocks marks d held.0 held.1) ∙ e6);
       }
 
   module _ (k : Met g blocks marks d z) where
-    counted : Counted d.journal_writes.count d.journal_writes.count d.journal_writes.ids
-    counted = counted_own d.journal_writes.count d.journal_writes.ids k.tables.journal_writes
+    counted : Counted d.journalWrites.count d.journalWrites.count d.journalWrites.ids
+    counted = counted_own d.journalWrites.count d.journalWrites.ids k.tables.journal_writes_is
 
     pub met_joined : Joined g (store_of g l blocks marks m d) → joined_ok g m d ≡ true
     unfolding joined_ok joined_by slots_wf
@@ -238,11 +238,11 @@ module _ (g : Geometry) (l : Lent) (blocks marks : List ℕ) (m : Machine) (d : 
         let s1 = first_of g blocks marks d j.wf in
         let s2 = second_of g blocks marks d j.wf in
         also_both _ _ (also_both _ _ (facts_slot g d.slots.first s1) (facts_slot g d.slots.second s2))
-        (also_both _ _ (facts_reads a.superblock_reads d.superblock_reads (j.superblock_reads ∙ sym (superblock_reads_await g l m)))
-        (also_both _ _ (facts_journal_reads a.journal_reads d.journal_reads z.journal_reads (reads_differ g l m h) (j.journal_reads ∙ sym (journal_reads_await g l m)))
+        (also_both _ _ (facts_reads a.superblockReads d.superblockReads (j.superblock_reads_is ∙ sym (superblock_reads_await g l m)))
+        (also_both _ _ (facts_journal_reads a.journalReads d.journalReads z.journal_reads_is (reads_differ g l m h) (j.journal_reads_is ∙ sym (journal_reads_await g l m)))
         (also_both _ _ (facts_writes a.superblockWrites d.superblockWrites
         (writes_by_view d.superblockWrites a.superblockWrites (j.superblock_writes ∙ sym (superblock_writes_await g l m h))))
-        (also_both _ _ (facts_same d.journal_writes z.journal_writes a.journal_writes (j.journal_writes ∙ sym (journal_writes_await g l m)))
-        (also_both _ _ (facts_apart d.journal_writes z.journal_writes d.journal_writes.count counted j.writes_apart)
+        (also_both _ _ (facts_same d.journalWrites z.journal_writes_is a.journalWrites (j.journal_writes_is ∙ sym (journal_writes_await g l m)))
+        (also_both _ _ (facts_apart d.journalWrites z.journal_writes_is d.journalWrites.count counted j.writes_apart)
         (cleared g blocks marks d s1 s2
-        ∙ facts_clear d.journal_writes z.journal_writes d.journal_writes.count counted g (selected_interval s1.value s2.value) j.writes_clear))))))
+        ∙ facts_clear d.journalWrites z.journal_writes_is d.journalWrites.count counted g (selected_interval s1.value s2.value) j.writes_clear_is))))))

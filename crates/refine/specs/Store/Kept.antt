@@ -5,7 +5,7 @@ use Rattle.std.specs.Prelude.{◌≡◌, refl}
 use Rattle.std.proofs.Math.Path.{sym, subst}
 use Rattle.std.proofs.Common.{◌∙◌, ap}
 use Rattle.std.proofs.Math.Logic.{⊎_elim}
-use Rattle.laws.specs.Choice.{and_then_left, and_then_right, unless-done, asked_either, ruin}
+use Rattle.laws.specs.Choice.{and_then_left, and_then_right, unless_done, asked_either, ruin}
 use Rattle.layout.specs.declared.Geometry.{Geometry}
 use Rattle.superblock.specs.declared.MaybeId.{MaybeId}
 use Rattle.superblock.specs.declared.DiskOp.{DiskOp}
@@ -91,8 +91,8 @@ module _ (g : Geometry) (l : Lent) (v : Given) (s : Store) (z : SizedStore s) (e
   written_machine_lent id1 id2 h =
       λ i.
       record {
-        bytes = unless-done (ask_write_journal g s id1 id2 b) l.bytes (moved_bytes m b l.bytes) h i;
-        lens = unless-done (ask_write_journal g s id1 id2 b) l.lens (moved_lens m b l.lens) h i;
+        bytes = unless_done (ask_write_journal g s id1 id2 b) l.bytes (moved_bytes m b l.bytes) h i;
+        lens = unless_done (ask_write_journal g s id1 id2 b) l.lens (moved_lens m b l.lens) h i;
         pieces = l.pieces;
         rbytes = l.rbytes;
         rlens = l.rlens;
@@ -108,8 +108,8 @@ module _ (g : Geometry) (l : Lent) (v : Given) (s : Store) (z : SizedStore s) (e
         bytes = l.bytes;
         lens = l.lens;
         pieces = l.pieces;
-        rbytes = unless-done (ask_loaded g m l.pieces l.rbytes l.rlens) l.rbytes (loaded_replay_bytes m l.pieces l.rbytes) h i;
-        rlens = unless-done (ask_loaded g m l.pieces l.rbytes l.rlens) l.rlens (loaded_replay_lens m l.pieces l.rlens) h i;
+        rbytes = unless_done (ask_loaded g m l.pieces l.rbytes l.rlens) l.rbytes (loaded_replay_bytes m l.pieces l.rbytes) h i;
+        rlens = unless_done (ask_loaded g m l.pieces l.rbytes l.rlens) l.rlens (loaded_replay_lens m l.pieces l.rlens) h i;
       }
 
   added_machine_lent : (k : ℕ) → ask_advance_step m b (given_of v.brought v.sizes k) ≡ 0
@@ -120,8 +120,8 @@ module _ (g : Geometry) (l : Lent) (v : Given) (s : Store) (z : SizedStore s) (e
       let q : ℕ = ask_advance_step m b (given_of v.brought v.sizes k) in
       λ i.
       record {
-        bytes = unless-done q l.bytes (appended_bytes b (count_of (memory v.brought v.sizes k)) v.brought l.bytes) h i;
-        lens = unless-done q l.lens (appended_lens m (count_of (memory v.brought v.sizes k)) v.sizes l.lens) h i;
+        bytes = unless_done q l.bytes (appended_bytes b (count_of (memory v.brought v.sizes k)) v.brought l.bytes) h i;
+        lens = unless_done q l.lens (appended_lens m (count_of (memory v.brought v.sizes k)) v.sizes l.lens) h i;
         pieces = l.pieces;
         rbytes = l.rbytes;
         rlens = l.rlens;
@@ -179,7 +179,7 @@ module _ (g : Geometry) (l : Lent) (v : Given) (s : Store) (x : Step) (o : DiskO
   -- lent memory too
   pub taken_lent : ask_step g l v s x ≡ 0 → stepped_lent g l v s x ≡ step_lent_with g l v s x (bodies_of l.lens s.machine)
   unfolding stepped_lent
-  taken_lent q = unless-done (ask_step g l v s x) l (step_lent_with g l v s x (bodies_of l.lens s.machine)) q
+  taken_lent q = unless_done (ask_step g l v s x) l (step_lent_with g l v s x (bodies_of l.lens s.machine)) q
 
   pub taken_formed : SizedStore s → (stepped g l v s x).answer ≡ answer.Next o → Formed (stepped_lent g l v s x) (stepped g l v s x).store
   unfolding ask_step
@@ -197,7 +197,7 @@ module _ (g : Geometry) (l : Lent) (v : Given) (s : Store) (x : Step) (o : DiskO
       let m = store_met g l s z (and_then_right _ _ (taken_asked h).0) in
       let a = alike_step g l v s x in
       record {
-        machine_lent = machine_lent_kept g l (stepped_lent g l v s x) a m.machine.lent;
+        machine_lent_is = machine_lent_kept g l (stepped_lent g l v s x) a m.machine.lent;
         machine = n.machine;
         disk_lent = disk_lent_kept g l (stepped_lent g l v s x) a m.disk.lent;
         tables = tabled_tables (stepped g l v s x).store.disk n.tables;

@@ -4,11 +4,11 @@ use Rattle.std.specs.Prelude.{Bool, true, ◌≡◌, refl, length, take, drop, r
 use Rattle.std.proofs.Common.{sym, ◌∙◌, ap, subst, arith, length-append, length-take, length-drop, length-take-le}
 use mathlib.Core.List.{List, ◌++◌}
 use Rattle.std.proofs.lemmas.List.{length-replicate}
-use Rattle.laws.specs.Choice.{and_then_left, and_then_right, also_both, unless, unless-done, unless-kept, split-eq, split-bool}
+use Rattle.laws.specs.Choice.{and_then_left, and_then_right, also_both, unless, unless_done, unless_kept, split_eq, split_bool}
 use Rattle.laws.specs.Fold.{every, every_append, every_take, every_drop, every_replicate}
 use Rattle.laws.specs.Cut.{flat, lengths, length_flat, length_lengths}
 use Rattle.laws.specs.Splice.{splice, length_splice, length_clipped}
-use Rattle.laws.specs.Around.{spliceAround, length_splice_around}
+use Rattle.laws.specs.Around.{splice_around, length_splice_around}
 use Rattle.layout.specs.declared.Geometry.{Geometry}
 use Rattle.interval.specs.declared.JournalInterval.{JournalInterval}
 use Rattle.interval.specs.Facts.{interval_facts}
@@ -73,10 +73,10 @@ disk_lent_kept g l l' a d =
 
 -- one number decides
 unless_long : (q : ℕ) (old new : List ℕ) → (q ≡ 0 → length new ≡ length old) → length (unless q old new) ≡ length old
-unless_long q old new f = split-eq q 0 (λ h. ap length (unless-done q old new h) ∙ f h) (λ h. ap length (unless-kept q old new h))
+unless_long q old new f = split_eq q 0 (λ h. ap length (unless_done q old new h) ∙ f h) (λ h. ap length (unless_kept q old new h))
 
 unless_marks : (q : ℕ) (old new : List ℕ) → (q ≡ 0 → every is_mark old ≡ true → every is_mark new ≡ true) → every is_mark old ≡ true → every is_mark (unless q old new) ≡ true
-unless_marks q old new f e = split-eq q 0 (λ h. ap (every is_mark) (unless-done q old new h) ∙ f h e) (λ h. ap (every is_mark) (unless-kept q old new h) ∙ e)
+unless_marks q old new f e = split_eq q 0 (λ h. ap (every is_mark) (unless_done q old new h) ∙ f h e) (λ h. ap (every is_mark) (unless_kept q old new h) ∙ e)
 
 -- what is left of a memory moves to its front
 pub moved_long : (xs : List ℕ) (n k : ℕ) → length (splice xs 0 (take n (drop k xs))) ≡ length xs
@@ -89,10 +89,10 @@ range_long bytes lens n t h k =
 
 put_long : (bytes lens : List ℕ) (n t : ℕ) (journal : List ℕ) (start : ℕ) → length (put_range bytes lens n t journal start) ≡ length journal
 put_long bytes lens n t journal start =
-    split-bool (put_ok (length bytes) (length lens) n t (length journal / block_size) start)
+    split_bool (put_ok (length bytes) (length lens) n t (length journal / block_size) start)
     (λ e.
     let p = puts_facts bytes lens n t journal start (blocks_for (used length_width n t)) e refl in
-    ap length (sym (put_yes bytes lens n t journal start (spliceAround journal (start * block_size) (range_from length_width bytes lens n t)) e refl))
+    ap length (sym (put_yes bytes lens n t journal start (splice_around journal (start * block_size) (range_from length_width bytes lens n t)) e refl))
     ∙ length_splice_around journal (start * block_size) (range_from length_width bytes lens n t) (puts_start bytes lens n t journal start e)
     (omega (arith, p.room, range_long bytes lens n t p.there p.fit)))
     (λ e. ap length (sym (put_no bytes lens n t journal start e)))
@@ -107,7 +107,7 @@ every_splice xs at ys e f =
     (every_drop is_mark (at + length ys) xs e)
 
 update_each : (marks : List ℕ) (v : JournalInterval) → every is_mark marks ≡ true → every is_mark (update_marks marks v) ≡ true
-unfolding update_marks spliceAround is_mark
+unfolding update_marks splice_around is_mark
 update_each marks v e =
     let ones : List ℕ = take (length marks) (replicate v.len 1) in
     let f : every is_mark ones ≡ true = every_take is_mark (length marks) (replicate v.len 1) (every_replicate is_mark v.len 1 refl) in
@@ -145,7 +145,7 @@ module _ (g : Geometry) (l : Lent) (v : Given) (s : Store) (m : Marks g l.marks)
         marks =
             unless_long q l.marks _
             (λ h.
-            let a = recv_write_journal_asked g s.disk.journal_writes id1 id2 (written_interval g s b) (and_then_right _ _ h) in
+            let a = recv_write_journal_asked g s.disk.journalWrites id1 id2 (written_interval g s b) (and_then_right _ _ h) in
             update_long l.marks (written_interval g s b) (omega (arith, (interval_facts g (written_interval g s b) a.valid).start_in, m.size)));
         each = unless_marks q l.marks _ (λ h e. update_each l.marks (written_interval g s b) e);
       }
@@ -194,7 +194,7 @@ module _ (g : Geometry) (l : Lent) (v : Given) (s : Store) (m : Marks g l.marks)
       }
 
   crashed_alike : ask_journal g v.picture v.pictured ≡ 0
-      → Alike l (with_journal l (crashed_blocks s.disk.journal_writes v.picture l.blocks) (crashed_marks s.disk.journal_writes v.pictured l.marks))
+      → Alike l (with_journal l (crashed_blocks s.disk.journalWrites v.picture l.blocks) (crashed_marks s.disk.journalWrites v.pictured l.marks))
   crashed_alike q =
       record {
         bytes = refl;
@@ -202,9 +202,9 @@ module _ (g : Geometry) (l : Lent) (v : Given) (s : Store) (m : Marks g l.marks)
         pieces = refl;
         rbytes = refl;
         rlens = refl;
-        blocks = length_crashed_blocks s.disk.journal_writes v.picture l.blocks;
-        marks = length_crashed_marks s.disk.journal_writes v.pictured l.marks;
-        each = crashed_marks_each s.disk.journal_writes v.pictured l.marks (journal_marks g v.picture v.pictured q).each;
+        blocks = length_crashed_blocks s.disk.journalWrites v.picture l.blocks;
+        marks = length_crashed_marks s.disk.journalWrites v.pictured l.marks;
+        each = crashed_marks_each s.disk.journalWrites v.pictured l.marks (journal_marks g v.picture v.pictured q).each;
       }
 
   lent_alike : (x : Step) (b : Bodies) → ask_picture g v.picture v.pictured x ≡ 0 → Alike l (step_lent_with g l v s x b)
@@ -237,8 +237,8 @@ pub alike_step : (g : Geometry) (l : Lent) (v : Given) (s : Store) (x : Step) �
 unfolding stepped_lent ask_step ask_store
 alike_step g l v s x =
     let q : ℕ = ask_step g l v s x in
-    split-eq q 0
+    split_eq q 0
     (λ h.
-    subst (Alike l) (sym (unless-done q l (step_lent_with g l v s x (bodies_of l.lens s.machine)) h))
+    subst (Alike l) (sym (unless_done q l (step_lent_with g l v s x (bodies_of l.lens s.machine)) h))
     (lent_alike g l v s (journal_marks g l.blocks l.marks (and_then_left _ _ (and_then_right _ _ h))) x (bodies_of l.lens s.machine) (and_then_left _ _ h)))
-    (λ h. subst (Alike l) (sym (unless-kept q l (step_lent_with g l v s x (bodies_of l.lens s.machine)) h)) (alike_same l))
+    (λ h. subst (Alike l) (sym (unless_kept q l (step_lent_with g l v s x (bodies_of l.lens s.machine)) h)) (alike_same l))

@@ -129,7 +129,7 @@ module _ (g : Geometry) (l : Lent) (v : Given) (s : Store) (z : SizedStore s) (e
       record {
         step = Source (PageInSuperblockReqStep (slot_of which));
         moves = page_in_superblock_req_clauses g (machine_lent l) s.machine which id q;
-        tied = said which (λ w. ledger.read_superblock w id) (recv_read_superblock_asked s.disk.superblock_reads which id d).which_in _ _ Tied.tied_read;
+        tied = said which (λ w. ledger.read_superblock w id) (recv_read_superblock_asked s.disk.superblockReads which id d).which_in _ _ Tied.tied_read;
       })
 
   -- PageInSuperblockResp: the machine awaits it, or nobody does

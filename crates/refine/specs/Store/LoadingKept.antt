@@ -6,7 +6,7 @@ use Rattle.std.proofs.Common.{◌∙◌, arith}
 use mathlib.Core.List.{List}
 use borrow.Author.Tests.{leb-true}
 use Rattle.std.proofs.Math.Seq.{length-take-le}
-use Rattle.laws.specs.Choice.{and_then_left, and_then_right, also_left, also_right, ask_yes, split-eq}
+use Rattle.laws.specs.Choice.{and_then_left, and_then_right, also_left, also_right, ask_yes, split_eq}
 use Rattle.laws.specs.Fold.{sum, every, same_is}
 use Rattle.laws.specs.Splice.{clipped, clipped_fits, splice}
 use Rattle.laws.specs.Sets.{Distinct}
@@ -44,7 +44,7 @@ use Rattle.machine.specs.Loading.{ask_page_in_journal_req_step, page_in_journal_
 use Rattle.refine.specs.Machine.ReadyView.{ReadyLent}
 use Rattle.refine.specs.Machine.ReadyForm.{ReadyForm}
 use Rattle.refine.specs.Machine.MachineView.{ready_lent, MachineLent, MachineForm}
-use Rattle.refine.specs.Machine.MachineKinds.{by_kind_is, asked_other}
+use Rattle.refine.specs.Machine.MachineKinds.{by_kind_is, asked_other_is}
 use Rattle.refine.specs.Machine.MachineWork.{work_asked, work_form, bodies_found}
 use Rattle.refine.specs.Machine.MachineEntries.{asked_entries}
 use Rattle.refine.specs.Store.ReadyKept.{advance_form, replay_form, loaded_form}
@@ -52,27 +52,27 @@ use Rattle.refine.specs.Store.MachineKept.{work_kind}
 
 -- Loading: the slot that the selected superblock stands in stays
 
-pieces_kept : (s : LoadingOther) (which id : ℕ) → s.which_superblock ≤ 1 → (page_in_journal_req_next s which id).which_superblock ≤ 1
+pieces_kept : (s : LoadingOther) (which id : ℕ) → s.whichSuperblock ≤ 1 → (page_in_journal_req_next s which id).whichSuperblock ≤ 1
 unfolding page_in_journal_req_next
 pieces_kept s which id h = go (is_second which)
   where
-    go : (c : Bool) → (cond {A = LoadingOther} c (to_pieces s (without_read s.front id) (piece.Reading id)) (to_pieces s (piece.Reading id) (without_read s.back id))).which_superblock ≤ 1
+    go : (c : Bool) → (cond {A = LoadingOther} c (to_pieces s (without_read s.front id) (piece.Reading id)) (to_pieces s (piece.Reading id) (without_read s.back id))).whichSuperblock ≤ 1
     go true = h
     go false = h
 
-paged_kept : (s : LoadingOther) (id : ℕ) (r : JournalRead) → s.which_superblock ≤ 1 → (page_in_journal_resp_next s id r).which_superblock ≤ 1
+paged_kept : (s : LoadingOther) (id : ℕ) (r : JournalRead) → s.whichSuperblock ≤ 1 → (page_in_journal_resp_next s id r).whichSuperblock ≤ 1
 unfolding page_in_journal_resp_next
 paged_kept s id r h = go (piece_reads s.front id) (piece_reads s.back id)
   where
     go : (a b : Bool)
-        → (cond {A = LoadingOther} a (to_pieces s (piece_read r) s.back) (cond {A = LoadingOther} b (to_pieces s s.front (piece_read r)) s)).which_superblock ≤ 1
+        → (cond {A = LoadingOther} a (to_pieces s (piece_read r) s.back) (cond {A = LoadingOther} b (to_pieces s s.front (piece_read r)) s)).whichSuperblock ≤ 1
     go true b = h
     go false true = h
     go false false = h
 
 selected_in : (a b : Superblock) → select_superblock_index a b ≤ 1
 selected_in a b =
-    split-eq b.counter (increment_superblock_counter a.counter)
+    split_eq b.counter (increment_superblock_counter a.counter)
     (λ e. omega (arith, selects_second a b e))
     (λ e. omega (arith, selects_first a b e))
 
@@ -80,7 +80,7 @@ module _ (g : Geometry) (l : Lent) (m : Machine) (f : MachineForm l m) where
   pub read_journal_kept : (which id : ℕ) → ask_page_in_journal_req_step g m which ≡ 0 → MachineForm l (page_in_journal_req_machine m which id)
   unfolding ask_page_in_journal_req_step page_in_journal_req_machine
   read_journal_kept which id q =
-      asked_other (λ x. MachineForm l x → MachineForm l (page_in_journal_req_machine x which id)) m (and_then_left _ _ q)
+      asked_other_is (λ x. MachineForm l x → MachineForm l (page_in_journal_req_machine x which id)) m (and_then_left _ _ q)
       (λ h. record { sync = h.sync; kind = pieces_kept m.other which id h.kind })
       f
 
@@ -120,7 +120,7 @@ module _ (g : Geometry) (l : Lent) (m : Machine) (f : MachineForm l m) where
       record {
         sync = f.sync;
         kind =
-            subst (λ (x : LoadingOther). x.which_superblock ≤ 1) (sym (finished_selects m.superblocks m.other a))
+            subst (λ (x : LoadingOther). x.whichSuperblock ≤ 1) (sym (finished_selects m.superblocks m.other a))
             (selected_in a.superblock1 a.superblock2);
       }
 
@@ -132,11 +132,11 @@ module _ (g : Geometry) (l : Lent) (m : Machine) (f : MachineForm l m) where
   loaded_kept q =
       let xs : List ℕ = loaded_bytes m l.pieces in
       let r = unpack_asked xs l.rbytes l.rlens (and_then_right _ _ q) in
-      let which : m.other.which_superblock ≤ 1 = asked_other (λ x. MachineForm l x → x.other.which_superblock ≤ 1) m (and_then_left _ _ (and_then_left _ _ q)) (λ h. h.kind) f in
+      let which : m.other.whichSuperblock ≤ 1 = asked_other_is (λ x. MachineForm l x → x.other.whichSuperblock ≤ 1) m (and_then_left _ _ (and_then_left _ _ q)) (λ h. h.kind) f in
       record {
         sync = f.sync;
         kind =
-            loaded_form (ready_lent l) m.other.superblock m.other.which_superblock (all_entries xs) which
+            loaded_form (ready_lent l) m.other.superblock m.other.whichSuperblock (all_entries xs) which
             (omega (arith, all_entries_bytes length_width most_entry_length xs r.parse, r.for_bytes))
             (omega (arith, all_entries_count length_width most_entry_length xs r.parse, r.for_lens));
       }

@@ -3,7 +3,7 @@ use Rattle.std.specs.Prelude.{ℕ, Bool, true, false, ◌≡◌, List, [], ◌�
 use Rattle.std.proofs.Math.Path.{refl}
 use Rattle.std.proofs.Common.{sym, ◌∙◌, ap, subst, subst₂, arith}
 use Rattle.std.proofs.Math.Option.{Option}
-use Rattle.laws.specs.Choice.{false-true}
+use Rattle.laws.specs.Choice.{false_true}
 use Rattle.laws.specs.Cut.{lengths}
 use Rattle.laws.specs.Fold.{sum}
 use Rattle.laws.specs.Sets.{AtMost, none_few, Two, at}
@@ -19,10 +19,10 @@ use Rattle.source.specs.Limits.{limits}
 use Rattle.history.specs.Ledger as ledger
 use Rattle.history.specs.Ledger.{Call, Ledger, shown}
 use Rattle.history.specs.Statement.{Ran, OnlyLoads, loads, ready_by}
-use Rattle.history.specs.Simulation.Relation.{super_of, Sim}
-use Rattle.history.specs.Loads.Comes.{load_calls, taken, Comes, here, by, comes_loads}
-use Rattle.history.specs.Loads.Superblocks.{resting, limits_room}
-use Rattle.history.specs.Loads.Loads.{comes_up}
+use Rattle.history.proofs.Simulation.Relation.{super_of, Sim}
+use Rattle.history.proofs.Loads.Comes.{load_calls, taken, Comes, here, by, comes_loads}
+use Rattle.history.proofs.Loads.Superblocks.{resting, limits_room}
+use Rattle.history.proofs.Loads.Loads.{comes_up}
 use Rattle.refine.specs.Store.Done.{StoreForm}
 use Rattle.refine.specs.Store.Within.{Brings}
 use Rattle.refine.specs.Store.History.{State, Made, state_seen, code_store}
@@ -44,8 +44,8 @@ loads_bring ledger.finish_superblocks e = tt
 loads_bring ledger.finish_other e = tt
 loads_bring ledger.freeze e = tt
 loads_bring (ledger.receive loc) e = tt
-loads_bring (ledger.add es) e = false-true e
-loads_bring (ledger.replay es) e = false-true e
+loads_bring (ledger.add es) e = false_true e
+loads_bring (ledger.replay es) e = false_true e
 loads_bring (ledger.push_sync id) e = tt
 loads_bring (ledger.pop_sync id) e = tt
 loads_bring ledger.no_op e = tt
@@ -86,7 +86,7 @@ module _ (g : Geometry) where
       nothing : sum (lengths {A = ℕ} []) ≡ 0
       nothing = refl
 
-      few : (which : Bool) → AtMost limits.superblock_reads (at (resting slots (state_seen g s).disk.journal).req_read_superblocks which)
+      few : (which : Bool) → AtMost limits.superblockReads (at (resting slots (state_seen g s).disk.journal).req_read_superblocks which)
       few true = none_few _
       few false = none_few _
 

@@ -12,19 +12,19 @@ use Rattle.source.specs.JournalCache as M
 use Rattle.source.specs.JournalCache.{journal_interval_of_superblock}
 use Rattle.source.specs.JournalSystem as Y
 use Rattle.source.specs.Limits.{limits}
-use Rattle.source.specs.Laws.Format.{limits_fit}
+use Rattle.source.proofs.Laws.Format.{limits_fit}
 use Rattle.source.specs.Departures.{Event, Allowed}
 use Rattle.history.specs.Ledger as ledger
 use Rattle.history.specs.Ledger.{Ledger}
 use Rattle.history.specs.Statement.{Tied, tied_crash, Takes}
-use Rattle.history.specs.Loads.Comes.{taken}
-use Rattle.history.specs.Reach.Reachable.{Reached}
+use Rattle.history.proofs.Loads.Comes.{taken}
+use Rattle.history.proofs.Reach.Reachable.{Reached}
 use Rattle.history.specs.Driver.{left}
-use Rattle.history.specs.Drive.Named.{limits_rooms}
-use Rattle.history.specs.Drive.Longest.{at_slots, damaging, TwelveLeft, longest_reached}
-use Rattle.history.specs.Example.Setting.{g, g_valid, table1, sb0, sb0_wf, init}
-use Rattle.history.specs.Example.States.{sb1, sb2, s29}
-use Rattle.history.specs.Example.Example.{answers}
+use Rattle.history.proofs.Drive.Named.{limits_rooms}
+use Rattle.history.proofs.Drive.Longest.{at_slots, damaging, TwelveLeft, longest_reached}
+use Rattle.history.proofs.Example.Setting.{g, g_valid, table1, sb0, sb0_wf, init}
+use Rattle.history.proofs.Example.States.{sb1, sb2, s29}
+use Rattle.history.proofs.Example.Example.{answers}
 use Rattle.store.specs.Lent.{Lent}
 use Rattle.calls.specs.Given.{Given}
 use Rattle.refine.specs.Store.History.{State, state_seen, code_store}

@@ -9,8 +9,8 @@ use Rattle.superblock.specs.declared.MaybeId.{MaybeId}
 use Rattle.tables.specs.declared.SyncTable.{SyncTable}
 use Rattle.tables.specs.Rows.{place_of, Counted}
 use Rattle.tables.specs.SyncTable.{SizedSyncs, ok_state, valid_states, added_sync, removed_sync, moved_syncs}
-use Rattle.tables.specs.Laws.Counts.{add_asked}
-use Rattle.tables.specs.Laws.SyncTables.{syncs_added_ok, syncs_added_valid, syncs_removed_ok, syncs_removed_valid, syncs_moved_ok, syncs_moved_valid}
+use Rattle.tables.proofs.Laws.Counts.{add_asked}
+use Rattle.tables.proofs.Laws.SyncTables.{syncs_added_ok, syncs_added_valid, syncs_removed_ok, syncs_removed_valid, syncs_moved_ok, syncs_moved_valid}
 use Rattle.memory.specs.Given.{memory}
 use Rattle.ready.specs.declared.Bodies.{Bodies}
 use Rattle.ready.specs.declared.Ready.{Ready}
@@ -79,8 +79,8 @@ module _ (t : SyncTable) (z : SizedSyncs t) (f : SyncForm t) where
 -- A machine at work
 
 pub work_kind : (l : Lent) (m : Machine) (r : Ready) → m.kind ≡ kind.Ready → ReadyForm (ready_lent l) r
-    → by_kind m.kind (Unit {0}) (m.other.which_superblock ≤ 1) (ReadyForm (ready_lent l) r)
-work_kind l m r e f = subst (λ (k : Kind). by_kind k (Unit {0}) (m.other.which_superblock ≤ 1) (ReadyForm (ready_lent l) r)) (sym e) f
+    → by_kind m.kind (Unit {0}) (m.other.whichSuperblock ≤ 1) (ReadyForm (ready_lent l) r)
+work_kind l m r e f = subst (λ (k : Kind). by_kind k (Unit {0}) (m.other.whichSuperblock ≤ 1) (ReadyForm (ready_lent l) r)) (sym e) f
 
 -- an answer is taken in every kind
 kind_form : (l : Lent) (m x : Machine) → MachineForm l m → (m.kind ≡ kind.Ready → MachineForm l x) → MachineForm l (by_kind {A = Machine} m.kind m m x)
@@ -112,7 +112,7 @@ module _ (g : Geometry) (l : Lent) (m : Machine) (z : SizedMachine m) (f : Machi
       kind_form l m _ f
       (λ e. record { sync = f.sync; kind = work_kind l m (write_back_journal_resp_next m.ready id) e (written_form (ready_lent l) m.ready (work_form g l m e f) z.writes id) })
 
-  commit_form : (c : Commit) → m.kind ≡ kind.Ready → by_kind m.kind (Unit {0}) (m.other.which_superblock ≤ 1) (ReadyForm (ready_lent l) (with_commit m.ready c))
+  commit_form : (c : Commit) → m.kind ≡ kind.Ready → by_kind m.kind (Unit {0}) (m.other.whichSuperblock ≤ 1) (ReadyForm (ready_lent l) (with_commit m.ready c))
   commit_form c e =
       let r = work_form g l m e f in
       work_kind l m (with_commit m.ready c) e (record { which_in = r.which_in; pending = r.pending; replay = r.replay; writes = r.writes })

@@ -1,7 +1,7 @@
 -- What the driver of crate driver names is heard as the call that history's driver names, of every machine that loads; and it brings nothing along.
 use Rattle.std.specs.Prelude.{ℕ, Bool, true, false, ◌≡◌, refl}
 use Rattle.std.proofs.Math.Option.{Option, none, some}
-use Rattle.laws.specs.Choice.{true-false, false-true}
+use Rattle.laws.specs.Choice.{true_false, false_true}
 use Rattle.layout.specs.declared.Geometry.{Geometry}
 use Rattle.interval.specs.declared.JournalInterval.{JournalInterval}
 use Rattle.interval.specs.declared.MaybeInterval.{MaybeInterval}
@@ -108,7 +108,7 @@ names g l v m d = go m.kind
               piece_plain (least_new d) 0 (front_of g m.other.superblock) m.other.front _
               (piece_plain (least_new d) 1 (back_of g m.other.superblock) m.other.back step.FinishLoadingOtherPhase refl);
         }
-    go kind.Ready e = false-true e
+    go kind.Ready e = false_true e
 
 -- at Ready none is
 pub none_named : (g : Geometry) (m : Machine) (d : Disk) → loads m.kind ≡ false → loading_step g (record { machine = m; disk = d }) ≡ drive.Refused 3
@@ -116,6 +116,6 @@ unfolding loading_step
 none_named g m d = go m.kind
   where
     go : (k : Kind) → loads k ≡ false → loading_step g (record { machine = of_kind m k; disk = d }) ≡ drive.Refused 3
-    go kind.LoadingSuperblock e = true-false e
-    go kind.LoadingOther e = true-false e
+    go kind.LoadingSuperblock e = true_false e
+    go kind.LoadingOther e = true_false e
     go kind.Ready e = refl

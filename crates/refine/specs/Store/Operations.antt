@@ -49,7 +49,7 @@ module _ (g : Geometry) (blocks marks : List ℕ) (d : Disk) (z : SizedDisk d) (
   abbrev before : D.Variables
   before = disk_of g blocks marks d
 
-  read_as : (which id : ℕ) (x : SuperblockRead) → ask_read_superblock_as d.slots d.superblock_reads which id x ≡ 0
+  read_as : (which id : ℕ) (x : SuperblockRead) → ask_read_superblock_as d.slots d.superblockReads which id x ≡ 0
       → D.AckReadSuperblock before (disk_of g blocks marks (ack_read_superblock_next d which id)) id (bit_of which) (superblock_in x)
   read_as which id (read.Whole superblock) e = SuperblockReads.read_as_clauses g d which id blocks marks m.tables (read.Whole superblock) e
   read_as which id read.Damaged e = SuperblockReads.read_as_clauses g d which id blocks marks m.tables read.Damaged e
@@ -57,7 +57,7 @@ module _ (g : Geometry) (blocks marks : List ℕ) (d : Disk) (z : SizedDisk d) (
   pub decided : (o : DiskOp) → Plain o → ask_decision g d o ≡ 0 → D.Next g before (disk_of g blocks marks (operation_next g d o)) (operation_of o [])
   decided (op.ReqReadSuperblock id which) p e =
       subst (D.RecvReadSuperblock before (disk_of g blocks marks (operation_next g d (op.ReqReadSuperblock id which))) id)
-      (slot_same which (recv_read_superblock_asked d.superblock_reads which id e).which_in)
+      (slot_same which (recv_read_superblock_asked d.superblockReads which id e).which_in)
       (SuperblockReads.recv_read_clauses g d which id blocks marks z e)
   decided (op.ReqReadJournal id v) p e = JournalReads.recv_read_clauses g d id v blocks marks z e
   decided (op.ReqWriteSuperblock id which superblock) p e =
@@ -67,7 +67,7 @@ module _ (g : Geometry) (blocks marks : List ℕ) (d : Disk) (z : SizedDisk d) (
   decided (op.ReqWriteJournal id1 id2 start count) p e = absurd p
   decided (op.RespReadSuperblock id which superblock) p e =
       subst (λ (w : Bool). D.AckReadSuperblock before (disk_of g blocks marks (operation_next g d (op.RespReadSuperblock id which superblock))) id w (superblock_in superblock))
-      (slot_same which (read_superblock_as_waiting d.superblock_reads which id d.slots superblock e).which_in)
+      (slot_same which (read_superblock_as_waiting d.superblockReads which id d.slots superblock e).which_in)
       (read_as which id superblock e)
   decided (op.RespReadJournal id journal) p e = absurd p
   decided (op.RespWriteSuperblock id which) p e =

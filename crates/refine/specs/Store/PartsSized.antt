@@ -22,9 +22,9 @@ use Rattle.tables.specs.Rows.{place_of}
 use Rattle.tables.specs.IdTable.{SizedIds, added_id, joined_id, removed_id}
 use Rattle.tables.specs.IntervalTable.{SizedIntervals}
 use Rattle.tables.specs.SyncTable.{SizedSyncs}
-use Rattle.tables.specs.Laws.IdTables.{sized_added_ids, sized_joined_ids, sized_removed_ids, sized_no_ids}
-use Rattle.tables.specs.Laws.IntervalTables.{sized_no_intervals, sized_added_intervals, sized_removed_intervals}
-use Rattle.tables.specs.Laws.SyncTables.{sized_added_syncs, sized_removed_syncs, sized_moved_syncs}
+use Rattle.tables.proofs.Laws.IdTables.{sized_added_ids, sized_joined_ids, sized_removed_ids, sized_no_ids}
+use Rattle.tables.proofs.Laws.IntervalTables.{sized_no_intervals, sized_added_intervals, sized_removed_intervals}
+use Rattle.tables.proofs.Laws.SyncTables.{sized_added_syncs, sized_removed_syncs, sized_moved_syncs}
 use Rattle.memory.specs.declared.Count.{Count}
 use Rattle.memory.specs.declared.Counted.{Counted}
 use Rattle.ready.specs.declared.Commit.{Commit}
@@ -96,48 +96,48 @@ unfolding interval_left
 left_sized t id l = sized_removed_intervals t l (place_of id (take t.count t.ids))
 
 pub idle_sized : (slots : Slots) → SizedDisk (idle_disk slots)
-idle_sized slots = record { reads1 = sized_no_ids; reads2 = sized_no_ids; journal_reads = sized_no_intervals; journal_writes = sized_no_intervals }
+idle_sized slots = record { reads1 = sized_no_ids; reads2 = sized_no_ids; journal_reads_is = sized_no_intervals; journal_writes_is = sized_no_intervals }
 
 module _ (d : Disk) (z : SizedDisk d) where
   pub land_sized : (which : ℕ) → SizedDisk (land_next d which)
   unfolding land_next
-  land_sized which = record { reads1 = z.reads1; reads2 = z.reads2; journal_reads = z.journal_reads; journal_writes = z.journal_writes }
+  land_sized which = record { reads1 = z.reads1; reads2 = z.reads2; journal_reads_is = z.journal_reads_is; journal_writes_is = z.journal_writes_is }
 
   pub read_left_sized : (id : ℕ) → SizedDisk (ack_read_journal_next d id)
   unfolding ack_read_journal_next
-  read_left_sized id = record { reads1 = z.reads1; reads2 = z.reads2; journal_reads = left_sized d.journal_reads id z.journal_reads; journal_writes = z.journal_writes }
+  read_left_sized id = record { reads1 = z.reads1; reads2 = z.reads2; journal_reads_is = left_sized d.journalReads id z.journal_reads_is; journal_writes_is = z.journal_writes_is }
 
-  at_sized : (which : ℕ) → SizedIds (reads_at d.superblock_reads which)
-  at_sized which = reads_sized d.superblock_reads which z.reads1 z.reads2
+  at_sized : (which : ℕ) → SizedIds (reads_at d.superblockReads which)
+  at_sized which = reads_sized d.superblockReads which z.reads1 z.reads2
 
   reads_put_sized : (which : ℕ) (x : IdTable) → SizedIds x
-      → SizedDisk (record { slots = d.slots; superblock_reads = put_reads d.superblock_reads which x; superblockWrites = d.superblockWrites; journal_reads = d.journal_reads; journal_writes = d.journal_writes })
+      → SizedDisk (record { slots = d.slots; superblockReads = put_reads d.superblockReads which x; superblockWrites = d.superblockWrites; journalReads = d.journalReads; journalWrites = d.journalWrites })
   reads_put_sized which x c =
       record {
-        reads1 = put_first SizedIds d.superblock_reads which x z.reads1 z.reads2 c;
-        reads2 = put_second SizedIds d.superblock_reads which x z.reads1 z.reads2 c;
-        journal_reads = z.journal_reads;
-        journal_writes = z.journal_writes;
+        reads1 = put_first SizedIds d.superblockReads which x z.reads1 z.reads2 c;
+        reads2 = put_second SizedIds d.superblockReads which x z.reads1 z.reads2 c;
+        journal_reads_is = z.journal_reads_is;
+        journal_writes_is = z.journal_writes_is;
       }
 
   pub operation_sized : (g : Geometry) (o : DiskOp) → SizedDisk (operation_next g d o)
   unfolding recv_read_superblock_next recv_read_journal_next recv_write_superblock_next recv_write_journal_next ack_read_superblock_next ack_write_superblock_next ack_write_journal_next read_received read_acked
   operation_sized g (op.ReqReadSuperblock id which) =
-      reads_put_sized which (added_id (reads_at d.superblock_reads which) id) (sized_added_ids (reads_at d.superblock_reads which) (at_sized which) id)
+      reads_put_sized which (added_id (reads_at d.superblockReads which) id) (sized_added_ids (reads_at d.superblockReads which) (at_sized which) id)
   operation_sized g (op.ReqReadJournal id v) =
-      record { reads1 = z.reads1; reads2 = z.reads2; journal_reads = sized_added_intervals d.journal_reads z.journal_reads id v; journal_writes = z.journal_writes }
+      record { reads1 = z.reads1; reads2 = z.reads2; journal_reads_is = sized_added_intervals d.journalReads z.journal_reads_is id v; journal_writes_is = z.journal_writes_is }
   operation_sized g (op.ReqWriteSuperblock id which superblock) =
-      record { reads1 = z.reads1; reads2 = z.reads2; journal_reads = z.journal_reads; journal_writes = z.journal_writes }
+      record { reads1 = z.reads1; reads2 = z.reads2; journal_reads_is = z.journal_reads_is; journal_writes_is = z.journal_writes_is }
   operation_sized g (op.ReqWriteJournal id1 id2 start count) =
-      record { reads1 = z.reads1; reads2 = z.reads2; journal_reads = z.journal_reads; journal_writes = written_sized g d.journal_writes id1 id2 (interval start count) z.journal_writes }
+      record { reads1 = z.reads1; reads2 = z.reads2; journal_reads_is = z.journal_reads_is; journal_writes_is = written_sized g d.journalWrites id1 id2 (interval start count) z.journal_writes_is }
   operation_sized g (op.RespReadSuperblock id which superblock) =
-      let t : IdTable = reads_at d.superblock_reads which in
+      let t : IdTable = reads_at d.superblockReads which in
       reads_put_sized which (removed_id t (place_of id (take t.count t.ids))) (sized_removed_ids t (at_sized which) (place_of id (take t.count t.ids)))
   operation_sized g (op.RespReadJournal id journal) = read_left_sized id
   operation_sized g (op.RespWriteSuperblock id which) =
-      record { reads1 = z.reads1; reads2 = z.reads2; journal_reads = z.journal_reads; journal_writes = z.journal_writes }
+      record { reads1 = z.reads1; reads2 = z.reads2; journal_reads_is = z.journal_reads_is; journal_writes_is = z.journal_writes_is }
   operation_sized g (op.RespWriteJournal id) =
-      record { reads1 = z.reads1; reads2 = z.reads2; journal_reads = z.journal_reads; journal_writes = left_sized d.journal_writes id z.journal_writes }
+      record { reads1 = z.reads1; reads2 = z.reads2; journal_reads_is = z.journal_reads_is; journal_writes_is = left_sized d.journalWrites id z.journal_writes_is }
   operation_sized g op.NoDiskOp = z
 
 -- The machine

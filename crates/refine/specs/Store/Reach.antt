@@ -15,12 +15,12 @@ use Rattle.memory.specs.Given.{memory, count_of, ask_given, ask_added, added_ask
 use Rattle.source.specs.JournalSystem as Y
 use Rattle.source.specs.JournalSystem.{superblock_of_disk}
 use Rattle.source.specs.Limits.{limits, MachineCounts, DiskCounts}
-use Rattle.source.specs.Laws.Format.{limits_fit}
+use Rattle.source.proofs.Laws.Format.{limits_fit}
 use Rattle.history.specs.Ledger as ledger
 use Rattle.history.specs.Ledger.{Call, Ledger, begin, tell}
 use Rattle.history.specs.Statement.{Takes}
-use Rattle.history.specs.Whole.First.{first_parity}
-use Rattle.history.specs.Reach.Reachable.{Reached, reached_init, reached_step}
+use Rattle.history.proofs.Whole.First.{first_parity}
+use Rattle.history.proofs.Reach.Reachable.{Reached, reached_init, reached_step}
 use Rattle.machine.specs.Questions.{bodies_of}
 use Rattle.machine.specs.Working.{ask_advance_step, ask_replay_given, ask_replay_step}
 use Rattle.requests.specs.declared.Slots.{Slots}
@@ -132,7 +132,7 @@ module _ (g : Geometry) (l : Lent) (v : Given) (s : Store) (x : Step) (o : DiskO
   -- the counts of the next state are within the limits
   pub machine_counts_kept : MachineCounts limits (seen g l' s').machine
   machine_counts_kept =
-      form_counts g (machine_lent l') (form_kept g l v s x o z taken).machine_lent s'.machine (sized_step g l v s z x).machine (taken_formed g l v s x o z taken).machine
+      form_counts g (machine_lent l') (form_kept g l v s x o z taken).machine_lent_is s'.machine (sized_step g l v s z x).machine (taken_formed g l v s x o z taken).machine
 
   pub disk_counts_kept : DiskCounts limits (seen g l' s').disk
   disk_counts_kept = tabled_counts g l'.blocks l'.marks s'.disk (sized_step g l v s z x).disk (taken_formed g l v s x o z taken).tables
@@ -153,7 +153,7 @@ module _ (g : Geometry) (p : ℕ) (l : Lent) (v : Given) (s : Store) (books : Le
       let f = form_kept g l v s x o z taken in
       let after : Y.Variables = seen g (stepped_lent g l v s x) (stepped g l v s x).store in
       let h =
-      takes_within g (seen g l s) after f.machine_lent.geometry (machine_counts_kept g l v s x o taken z e) (disk_counts_kept g l v s x o taken z e)
+      takes_within g (seen g l s) after f.machine_lent_is.geometry (machine_counts_kept g l v s x o taken z e) (disk_counts_kept g l v s x o taken z e)
       (length_cells g.blocks (stepped_lent g l v s x).blocks (stepped_lent g l v s x).marks)
       (cell_size g.blocks (stepped_lent g l v s x).blocks (stepped_lent g l v s x).marks f.disk_lent.blocks_right.size)
       (call_of v x) takes (brings_kept g l v s x o taken z e)

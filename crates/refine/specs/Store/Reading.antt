@@ -9,7 +9,7 @@ use mathlib.Core.List.{List}
 use Rattle.std.proofs.Math.Option.{Option, none, some}
 use Rattle.std.proofs.Math.Logic.{⊎_elim}
 use Rattle.std.proofs.Math.ListN.{length, take, drop}
-use Rattle.laws.specs.Choice.{unless, unless-done}
+use Rattle.laws.specs.Choice.{unless, unless_done}
 use Rattle.laws.specs.Cut.{cut_even}
 use Rattle.laws.specs.Around.{around_straight}
 use Rattle.laws.specs.Part.{length_part}
@@ -49,7 +49,7 @@ use Rattle.calls.specs.declared.calls.Step.TheVariants as step
 use Rattle.calls.specs.Given.{Given}
 use Rattle.refine.specs.Disk.JournalReads.{waiting_some, read_clauses}
 use Rattle.refine.specs.Machine.LoadingView.{blocks_in}
-use Rattle.refine.specs.Machine.LoadingPaged.{asked_piece, blocks_all}
+use Rattle.refine.specs.Machine.LoadingPaged.{asked_piece, blocks_all_is}
 use Rattle.refine.specs.Machine.MachineView.{machine_of}
 use Rattle.refine.specs.Machine.MachineJournalAnswers.{seen_after, whole_clauses, damaged_clauses}
 use Rattle.refine.specs.Store.Seen.{seen, SizedStore, StoreMet, store_met, call_of}
@@ -71,7 +71,7 @@ module _ (g : Geometry) (v : JournalInterval) (blocks : List ℕ) where
 
     -- of n blocks
     pub blocks_held : blocks_in (length held / 4096) held ≡ blocks_in v.len held
-    blocks_held = blocks_all v.len held held_length
+    blocks_held = blocks_all_is v.len held held_length
 
     pub out_held : (out : List ℕ) → length out ≡ g.blocks * 4096 → cells.blocks_in v.len (read_out true v blocks out) ≡ blocks_in (length held / 4096) held
     unfolding cells.blocks_in
@@ -111,17 +111,17 @@ module _ (g : Geometry) (l : Lent) (v : Given) (s : Store) (id : ℕ) where
     whole_takes : ask_journal_read s id true l.marks ≡ 0 → Takes g format limits (seen g l s) (seen g (after true) (next true)) (call_of v (step.PageInJournalResp id true))
     unfolding ask_journal_read
     whole_takes q =
-        let k = waiting_some s.disk.journal_reads z.disk.journal_reads id (ack_read_journal_waiting s.disk.journal_reads id true l.marks q) in
-        let u : held_interval s.disk.journal_reads id ≡ k.0 = held_is s.disk.journal_reads id k.0 k.1 in
+        let k = waiting_some s.disk.journalReads z.disk.journal_reads_is id (ack_read_journal_waiting s.disk.journalReads id true l.marks q) in
+        let u : held_interval s.disk.journalReads id ≡ k.0 = held_is s.disk.journalReads id k.0 k.1 in
         let f = met.disk.meets.shape.reads_contiguous id k.0 k.1 in
         let b = met.disk.lent.blocks_right in
         let p : Paged = paged_in g s.machine id read.Whole in
         let long : p.len ≡ k.0.len =
-        paged_len g (machine_lent l) s.machine id k.0 asked (sym (ap (λ (m : ℕ → Option JournalInterval). m id) met.joined.journal_reads) ∙ k.1) in
+        paged_len g (machine_lent l) s.machine id k.0 asked (sym (ap (λ (m : ℕ → Option JournalInterval). m id) met.joined.journal_reads_is) ∙ k.1) in
         let new : List ℕ = held g k.0 l.blocks in
         let dop : D.DiskOp = D.RespReadJournalOp id (some (blocks_in (length new / 4096) new)) in
         let there : paged_pieces p new l.pieces ≡ (after true).pieces =
-        piece_takes g k.0 l.blocks b f p (held_interval s.disk.journal_reads id) l.pieces long u in
+        piece_takes g k.0 l.blocks b f p (held_interval s.disk.journalReads id) l.pieces long u in
         let same : seen_after g (machine_lent l) s.machine id read.Whole new ≡ (seen g (after true) (next true)).machine =
         ap (λ (ps : List ℕ). machine_of g (machine_lent (with_pieces l ps)) (next true).machine) there in
         let disk : D.Next g (seen g l s).disk (seen g (after true) (next true)).disk dop =
@@ -140,11 +140,11 @@ module _ (g : Geometry) (l : Lent) (v : Given) (s : Store) (id : ℕ) where
     damaged_takes : ask_journal_read s id false l.marks ≡ 0 → Takes g format limits (seen g l s) (seen g (after false) (next false)) (call_of v (step.PageInJournalResp id false))
     unfolding ask_journal_read
     damaged_takes q =
-        let new : List ℕ = drop ((held_interval s.disk.journal_reads id).start * 4096) l.blocks in
+        let new : List ℕ = drop ((held_interval s.disk.journalReads id).start * 4096) l.blocks in
         let dop : D.DiskOp = D.RespReadJournalOp id none in
         let same : seen_after g (machine_lent l) s.machine id read.Damaged new ≡ (seen g (after false) (next false)).machine =
         ap (λ (ps : List ℕ). machine_of g (machine_lent (with_pieces l ps)) (next false).machine)
-        (nothing_taken (paged_in g s.machine id read.Damaged) (held_interval s.disk.journal_reads id) l.blocks l.pieces) in
+        (nothing_taken (paged_in g s.machine id read.Damaged) (held_interval s.disk.journalReads id) l.blocks l.pieces) in
         let disk : D.Next g (seen g l s).disk (seen g (after false) (next false)).disk dop =
         read_clauses g s.disk id l.blocks l.marks l.pieces z.disk met.disk met.machine.lent.pieces_lent false q in
         ⊎_elim
@@ -169,5 +169,5 @@ module _ (g : Geometry) (l : Lent) (v : Given) (s : Store) (id : ℕ) where
         answered_takes g l s (ask_journal_read s id whole l.marks) (page_in_journal_resp_op id (read_of whole)) (next whole)
         (with_pieces l (unless (ask_journal_read s id whole l.marks) l.pieces (read_pieces g s id whole l.blocks l.pieces))) (after whole)
         (call_of v (step.PageInJournalResp id whole)) o a
-        (λ q. ap (with_pieces l) (unless-done (ask_journal_read s id whole l.marks) l.pieces (read_pieces g s id whole l.blocks l.pieces) q))
+        (λ q. ap (with_pieces l) (unless_done (ask_journal_read s id whole l.marks) l.pieces (read_pieces g s id whole l.blocks l.pieces) q))
         (either_takes whole)

@@ -14,8 +14,8 @@ use Rattle.superblock.specs.declared.MaybeId.TheVariants as maybe
 use Rattle.tables.specs.declared.IdTable.{IdTable}
 use Rattle.tables.specs.Rows.{place_of, Counted}
 use Rattle.tables.specs.IdTable.{SizedIds, no_ids, joined_id, removed_id}
-use Rattle.tables.specs.Laws.Counts.{counted_none}
-use Rattle.tables.specs.Laws.IdTables.{ids_joined_ok, ids_removed_ok}
+use Rattle.tables.proofs.Laws.Counts.{counted_none}
+use Rattle.tables.proofs.Laws.IdTables.{ids_joined_ok, ids_removed_ok}
 use Rattle.range.specs.Form.{Entry}
 use Rattle.range.specs.Memory.{total, total_write, total_split}
 use Rattle.memory.specs.declared.Count.{Count}
@@ -166,8 +166,8 @@ module _ (l : ReadyLent) (r : Ready) (f : ReadyForm l r) where
         writes = removed_table r.writes (place_of id (take r.writes.count r.writes.ids)) z f.writes;
       }
 
-  commit_slot : commit_slot r ≤ 1
-  commit_slot = go (eqb r.which_superblock 0)
+  commit_slot_is : commit_slot r ≤ 1
+  commit_slot_is = go (eqb r.whichSuperblock 0)
     where
       go : (c : Bool) → cond {A = ℕ} c 1 0 ≤ 1
       go true = omega arith
@@ -178,11 +178,11 @@ module _ (l : ReadyLent) (r : Ready) (f : ReadyForm l r) where
   committed_form id = go r.commit
     where
       by_log : (c : Bool) (new : Superblock) → ReadyForm l (cond {A = Ready} c (log_committed r new) r)
-      by_log true new = record { which_in = commit_slot; pending = f.pending; replay = f.replay; writes = f.writes }
+      by_log true new = record { which_in = commit_slot_is; pending = f.pending; replay = f.replay; writes = f.writes }
       by_log false new = f
 
       by_location : (c : Bool) (new : Superblock) → ReadyForm l (cond {A = Ready} c (location_committed r new) r)
-      by_location true new = record { which_in = commit_slot; pending = f.pending; replay = f.replay; writes = f.writes }
+      by_location true new = record { which_in = commit_slot_is; pending = f.pending; replay = f.replay; writes = f.writes }
       by_location false new = f
 
       go : (c : Commit) → ReadyForm l (answered r id c)

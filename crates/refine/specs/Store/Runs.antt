@@ -11,7 +11,7 @@ use Rattle.source.specs.JournalSystem as Y
 use Rattle.source.specs.JournalSystem.{superblock_of_disk}
 use Rattle.history.specs.Ledger.{Ledger, begin, tell, books}
 use Rattle.history.specs.Statement.{Ran}
-use Rattle.history.specs.Whole.First.{first_parity}
+use Rattle.history.proofs.Whole.First.{first_parity}
 use Rattle.requests.specs.declared.Slots.{Slots}
 use Rattle.store.specs.declared.Store.{Store}
 use Rattle.store.specs.Lent.{Lent, machine_lent, ask_store}

@@ -4,7 +4,7 @@ use Prim.Native.Nat.{ℕ}
 use Rattle.std.specs.Prelude.{Bool, true, false, cond, ◌≡◌, refl, List, eqb}
 use Rattle.std.proofs.Math.Path.{sym, ap, subst}
 use Rattle.std.proofs.Common.{◌∙◌}
-use Rattle.laws.specs.Choice.{and_then, and_then_left, and_then_right, and_then_both, unless, unless-kept, unless-done, asked_yes, asked_no, split-eq, ruin}
+use Rattle.laws.specs.Choice.{and_then, and_then_left, and_then_right, and_then_both, unless, unless_kept, unless_done, asked_yes, asked_no, split_eq, ruin}
 use Rattle.layout.specs.declared.Geometry.{Geometry}
 use Rattle.superblock.specs.declared.DiskOp.{DiskOp}
 use Rattle.superblock.specs.declared.DiskOp.TheVariants as op
@@ -77,10 +77,10 @@ module _ (g : Geometry) (l : Lent) (v : Given) (s : Store) (z : SizedStore s) wh
       → Takes g format limits (seen g l s) (seen g (stepped_lent g l v s x) (stepped g l v s x).store) (call_of v x)
   unfolding stepped stepped_lent ask_step asked
   store_takes x o h =
-      split-eq asks 0
+      split_eq asks 0
       (λ q.
       let a = asked_yes asks (step_answer g l v s x) (refused s asks) q in
-      let m = unless-done asks l (step_lent g l v s x) q in
+      let m = unless_done asks l (step_lent g l v s x) q in
       subst (λ (y : StoreStepped × Lent). Takes g format limits (seen g l s) (seen g y.1 y.0.store) (call_of v x))
       (λ i. (sym a i, sym m i))
       (asked_takes (and_then_right _ _ q) x (and_then_left _ _ q) o (ap (λ (y : StoreStepped). y.answer) (sym a) ∙ h)))
@@ -112,7 +112,7 @@ module _ (g : Geometry) (l : Lent) (v : Given) (s : Store) (b : Bodies) where
   both_kept q op next n h = same_store _ _ _ n h
 
   pending_kept : (q : ℕ) (bytes lens : List ℕ) → (q ≡ 0 → ⊥) → with_pending l (unless q l.bytes bytes) (unless q l.lens lens) ≡ l
-  pending_kept q bytes lens f = λ i. with_pending l (unless-kept q l.bytes bytes f i) (unless-kept q l.lens lens f i)
+  pending_kept q bytes lens f = λ i. with_pending l (unless_kept q l.bytes bytes f i) (unless_kept q l.lens lens f i)
 
   asked_kept : (x : Step) (n : ℕ) → (step_answer_with g l v s x b).answer ≡ answer.Refused n → Kept x
   unfolding step_answer_with step_lent_with one.both one.ask_write_journal
@@ -121,8 +121,8 @@ module _ (g : Geometry) (l : Lent) (v : Given) (s : Store) (b : Bodies) where
         same_store _ _ _ n h,
         (λ i.
             with_journal (pending_kept (one.ask_write_journal g s id1 id2 b) (moved_bytes s.machine b l.bytes) (moved_lens s.machine b l.lens) f i)
-            (unless-kept (one.ask_write_journal g s id1 id2 b) l.blocks (one.written_blocks g s b l.bytes l.lens l.blocks) f i)
-            (unless-kept (one.ask_write_journal g s id1 id2 b) l.marks (one.written_marks g s b l.marks) f i)),
+            (unless_kept (one.ask_write_journal g s id1 id2 b) l.blocks (one.written_blocks g s b l.bytes l.lens l.blocks) f i)
+            (unless_kept (one.ask_write_journal g s id1 id2 b) l.marks (one.written_marks g s b l.marks) f i)),
       )
   asked_kept (step.WriteBackJournalResp id) n h = (same_store _ _ _ n h, refl)
   asked_kept (step.AdvanceLog id) n h = (same_store _ _ _ n h, refl)
@@ -130,7 +130,7 @@ module _ (g : Geometry) (l : Lent) (v : Given) (s : Store) (b : Bodies) where
   asked_kept (step.WriteBackSuperblockResp id) n h = (same_store _ _ _ n h, refl)
   asked_kept (step.PageInJournalReq which id) n h = (same_store _ _ _ n h, refl)
   asked_kept (step.PageInJournalResp id whole) n h =
-      (same_store _ _ _ n h, ap (with_pieces l) (unless-kept (one.ask_journal_read s id whole l.marks) l.pieces (one.read_pieces g s id whole l.blocks l.pieces) (some_no _ _ _ n h)))
+      (same_store _ _ _ n h, ap (with_pieces l) (unless_kept (one.ask_journal_read s id whole l.marks) l.pieces (one.read_pieces g s id whole l.blocks l.pieces) (some_no _ _ _ n h)))
   asked_kept (step.PageInSuperblockReq which id) n h = (same_store _ _ _ n h, refl)
   asked_kept (step.PageInSuperblockResp which id whole) n h = (same_store _ _ _ n h, refl)
   asked_kept step.FinishLoadingSuperblockPhase n h = (same_store _ _ _ n h, refl)
@@ -138,7 +138,7 @@ module _ (g : Geometry) (l : Lent) (v : Given) (s : Store) (b : Bodies) where
       let q = ask_loaded g s.machine l.pieces l.rbytes l.rlens in
       let f : q ≡ 0 → ⊥ = machine_no q n (finish_loading_other_phase_machine s.machine l.pieces) h in (
         same_store _ _ _ n h,
-        (λ i. with_replay l (unless-kept q l.rbytes (loaded_replay_bytes s.machine l.pieces l.rbytes) f i) (unless-kept q l.rlens (loaded_replay_lens s.machine l.pieces l.rlens) f i)),
+        (λ i. with_replay l (unless_kept q l.rbytes (loaded_replay_bytes s.machine l.pieces l.rbytes) f i) (unless_kept q l.rlens (loaded_replay_lens s.machine l.pieces l.rlens) f i)),
       )
   asked_kept step.Freeze n h = (same_store _ _ _ n h, refl)
   asked_kept (step.ReceiveFrozenLoc loc) n h = (same_store _ _ _ n h, refl)
@@ -159,13 +159,13 @@ pub store_refused : (g : Geometry) (l : Lent) (v : Given) (s : Store) (x : Step)
     → ((stepped g l v s x).store ≡ s) × (stepped_lent g l v s x ≡ l)
 unfolding stepped stepped_lent asked
 store_refused g l v s x n h =
-    split-eq asks 0
+    split_eq asks 0
     (λ q.
     let a = asked_yes asks (step_answer g l v s x) (refused s asks) q in
-    let m = unless-done asks l (step_lent g l v s x) q in
+    let m = unless_done asks l (step_lent g l v s x) q in
     let k = asked_kept g l v s (bodies_of l.lens s.machine) x n (ap (λ (y : StoreStepped). y.answer) (sym a) ∙ h) in
     (ap (λ (y : StoreStepped). y.store) a ∙ k.0, m ∙ k.1))
-    (λ f. (ap (λ (y : StoreStepped). y.store) (asked_no asks (step_answer g l v s x) (refused s asks) f), unless-kept asks l (step_lent g l v s x) f))
+    (λ f. (ap (λ (y : StoreStepped). y.store) (asked_no asks (step_answer g l v s x) (refused s asks) f), unless_kept asks l (step_lent g l v s x) f))
   where
     asks : ℕ
     asks = ask_step g l v s x

@@ -4,7 +4,7 @@ use Rattle.std.specs.Prelude.{ℕ, zero, suc, ◌≤◌, Bool, true, false, cond
 use Rattle.std.proofs.Common.{sym, ◌∙◌, ap, subst, arith}
 use Rattle.std.proofs.Math.Option.{some}
 use Rattle.laws.specs.Choice.{ruin}
-use Rattle.laws.specs.Sets.{no_ids, ids_of, Map}
+use Rattle.laws.specs.Sets.{empty_ids, ids_of, Map}
 use Rattle.layout.specs.declared.Geometry.{Geometry}
 use Rattle.layout.specs.declared.Location.{Location}
 use Rattle.range.specs.Memory.{view, view_none}
@@ -20,9 +20,9 @@ use Rattle.history.specs.Ledger as ledger
 use Rattle.history.specs.Ledger.{Call, begin}
 use Rattle.history.specs.Statement.{Takes, Trace, Ran}
 use Rattle.history.specs.Coverage.{first_page, said, Covered, Idle, Saved}
-use Rattle.history.specs.Sync.{store_sync_covered, idle_saved, idle_save}
-use Rattle.history.specs.Calls.Called.{nonsense_refused}
-use Rattle.history.specs.Whole.Stores.{ran_trace}
+use Rattle.history.proofs.Sync.{store_sync_covered, idle_saved, idle_save}
+use Rattle.history.proofs.Calls.Called.{nonsense_refused}
+use Rattle.history.proofs.Whole.Stores.{ran_trace}
 use Rattle.ready.specs.declared.Entries.{Entries}
 use Rattle.ready.specs.declared.Commit.TheVariants as commit
 use Rattle.ready.specs.State.{commit_slot}
@@ -64,9 +64,9 @@ code_sync_covered g first loc i s calls answers t e h id q =
 pub record IdleStore (s : Store) : Type 0 where
   pub at_work : s.machine.kind ≡ kind.Ready
   pub none_pending : s.machine.ready.entries.pending ≡ 0
-  pub none_frozen : s.machine.ready.entries.frozen ≡ 0
-  pub none_outstanding : s.machine.ready.writes.count ≡ 0
-  pub no_commit : s.machine.ready.commit ≡ commit.CommitNone
+  pub none_frozen_is : s.machine.ready.entries.frozen ≡ 0
+  pub none_outstanding_is : s.machine.ready.writes.count ≡ 0
+  pub no_commit_is : s.machine.ready.commit ≡ commit.CommitNone
 
 -- a log commit under any id, its landing and its answer, whatever else is given with them
 abbrev pub saving_calls : State → ℕ → (v1 v2 v3 : Given) → List Made
@@ -85,7 +85,7 @@ no_entries : (n : ℕ) (es : List JournalEntry) → es ≡ [] → drop n es ≡ 
 no_entries zero es e = e
 no_entries (suc n) es e = ap (drop (suc n)) e
 
-no_writes : (n : ℕ) (ids : List ℕ) → n ≡ 0 → ids_of (take n ids) ≡ no_ids
+no_writes : (n : ℕ) (ids : List ℕ) → n ≡ 0 → ids_of (take n ids) ≡ empty_ids
 unfolding ids_of
 no_writes n ids e = ap (λ (k : ℕ). ids_of (take k ids)) e
 
@@ -93,11 +93,11 @@ idle_view : (g : Geometry) (s : State) → IdleStore s.store → ((state_seen g 
 idle_view g s h = (
   work_seen g (machine_lent s.lent) s.store.machine h.at_work,
   record {
-    none_in_memory =
+    none_in_memory_is =
         no_entries e.frozen (view l.bytes l.lens e.pending) (ap (view l.bytes l.lens) h.none_pending ∙ view_none l.bytes l.lens);
-    none_frozen = ap (view l.bytes l.lens) h.none_frozen ∙ view_none l.bytes l.lens;
-    none_outstanding = no_writes s.store.machine.ready.writes.count s.store.machine.ready.writes.ids h.none_outstanding;
-    no_commit = ap write_of h.no_commit;
+    none_frozen_is = ap (view l.bytes l.lens) h.none_frozen_is ∙ view_none l.bytes l.lens;
+    none_outstanding_is = no_writes s.store.machine.ready.writes.count s.store.machine.ready.writes.ids h.none_outstanding_is;
+    no_commit_is = ap write_of h.no_commit_is;
   },
 )
   where
@@ -118,7 +118,7 @@ pub record NextBy (g : Geometry) (s : State) (x : Made) (t : Y.Variables) : Type
 take_call : (g : Geometry) (s : State) (v : Given) (x : Step) (t : Y.Variables) → StoreForm g s.lent s.store → Takes g format limits (state_seen g s) t (call_of v x) → Fits g t → Brings (call_of v x)
     → ((event : Event) → Pictured g s.lent v x event) → NextBy g s (makes v x) t
 take_call g s v x t f h k b p =
-    let w = takes_within g (state_seen g s) t f.machine_lent.geometry k.machine k.disk k.size k.block_size (call_of v x) h b in
+    let w = takes_within g (state_seen g s) t f.machine_lent_is.geometry k.machine k.disk k.size k.block_size (call_of v x) h b in
     let d : TakenTo g s.lent v s.store x t = call_complete g s.lent v s.store s.sized f t w.0.event x w.0.tied (p w.0.event) (w.0.allowed, w.1) in
     record {
       next =
@@ -133,10 +133,10 @@ take_call g s v x t f h k b p =
     }
 
 -- the slot that a commit writes, as a call names it
-other_slot : (which : ℕ) → which ≤ 1 → named (cond (eqb which 0) 1 0) (λ w. ledger.land w) ≡ ledger.land (not (slot_of which))
-other_slot zero h = refl
-other_slot (suc zero) h = refl
-other_slot (suc (suc which)) h = absurd (omega (arith, h))
+other_slot_is : (which : ℕ) → which ≤ 1 → named (cond (eqb which 0) 1 0) (λ w. ledger.land w) ≡ ledger.land (not (slot_of which))
+other_slot_is zero h = refl
+other_slot_is (suc zero) h = refl
+other_slot_is (suc (suc which)) h = absurd (omega (arith, h))
 
 module _ (g : Geometry) (s : State) (q : ask_store g s.lent s.store ≡ 0) (idle : IdleStore s.store) (k : ℕ) (v1 v2 v3 : Given) where
   met : StoreMet g s.lent s.store s.sized
@@ -147,13 +147,13 @@ module _ (g : Geometry) (s : State) (q : ask_store g s.lent s.store ≡ 0) (idle
 
   -- the slot of the commit
   abbrev slot : Bool
-  slot = not (slot_of s.store.machine.ready.which_superblock)
+  slot = not (slot_of s.store.machine.ready.whichSuperblock)
 
   abbrev landing : Step
   landing = step.Land (commit_slot s.store.machine.ready)
 
   landing_is : call_of v2 landing ≡ ledger.land slot
-  landing_is = other_slot s.store.machine.ready.which_superblock (work_form g (machine_lent s.lent) s.store.machine idle.at_work formed.machine).which_in
+  landing_is = other_slot_is s.store.machine.ready.whichSuperblock (work_form g (machine_lent s.lent) s.store.machine idle.at_work formed.machine).which_in
 
   saves : Saved g format limits (state_seen g s) k slot
   saves =

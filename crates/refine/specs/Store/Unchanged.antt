@@ -10,11 +10,11 @@ use Rattle.source.specs.Limits.{limits}
 use Rattle.source.specs.Before.{MeetsBefore}
 use Rattle.source.specs.Departures.{Event, SystemStep⁺}
 use Rattle.source.specs.Within.{Within}
-use Rattle.source.specs.Laws.Overlap.{before_meets}
+use Rattle.source.proofs.Laws.Overlap.{before_meets}
 use Rattle.history.specs.Statement.{Tied, Takes, Ran}
 use Rattle.history.specs.Before.{TakesBefore, TraceBefore}
-use Rattle.history.specs.Whole.Stores.{ran_trace}
-use Rattle.history.specs.Reach.Unchanged.{histories_unchanged, calls_unchanged}
+use Rattle.history.proofs.Whole.Stores.{ran_trace}
+use Rattle.history.proofs.Reach.Unchanged.{histories_unchanged, calls_unchanged}
 use Rattle.store.specs.declared.Store.{Store}
 use Rattle.store.specs.Lent.{Lent}
 use Rattle.calls.specs.declared.calls.Step.{Step}

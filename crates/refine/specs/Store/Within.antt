@@ -6,8 +6,8 @@ use Rattle.laws.specs.Sets.{AtMost, keys}
 use Rattle.layout.specs.declared.Geometry.{Geometry}
 use Rattle.layout.specs.Geometry.{num_journal_blocks, ValidGeometry}
 use Rattle.tables.specs.SyncTable.{SizedSyncs}
-use Rattle.tables.specs.Laws.Counts.{count_few}
-use Rattle.tables.specs.Laws.SyncTables.{syncs_few}
+use Rattle.tables.proofs.Laws.Counts.{count_few}
+use Rattle.tables.proofs.Laws.SyncTables.{syncs_few}
 use Rattle.codec.specs.Codec.{JournalEntry, Sized, EntriesFit}
 use Rattle.codec.specs.Format.{format}
 use Rattle.source.specs.JournalSystem as Y

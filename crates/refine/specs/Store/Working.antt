@@ -36,9 +36,9 @@ use Rattle.refine.specs.Store.Seen.{seen, SizedStore, call_of}
 use Rattle.refine.specs.Store.Plain.{both_takes, entries_is}
 
 -- the entries of a replay are there
-replay_given : (m : Machine) (rbytes rlens brought sizes : List ℕ) (k : ℕ) → ask_replay_step m rbytes rlens brought sizes k ≡ 0 → R.Given brought sizes k
+replay_given_is : (m : Machine) (rbytes rlens brought sizes : List ℕ) (k : ℕ) → ask_replay_step m rbytes rlens brought sizes k ≡ 0 → R.Given brought sizes k
 unfolding ask_replay_step ask_replay_given
-replay_given m rbytes rlens brought sizes k e =
+replay_given_is m rbytes rlens brought sizes k e =
     let q : ask_given (memory brought sizes k) ≡ 0 = and_then_left _ _ (and_then_right _ _ e) in
     asked_entries brought sizes k q
 
@@ -113,6 +113,6 @@ module _ (g : Geometry) (l : Lent) (v : Given) (s : Store) (z : SizedStore s) (e
         moves = replay_clauses g (machine_lent l) s.machine v.brought v.sizes k m.machine q;
         tied =
             subst (λ (x : Call). Tied x (MachineStep D.NoDiskOp (Source (ReplayStep (view v.brought v.sizes k)))))
-            (sym (entries_is v.brought v.sizes k (ledger.replay (view v.brought v.sizes k)) (replay_given s.machine l.rbytes l.rlens v.brought v.sizes k q)))
+            (sym (entries_is v.brought v.sizes k (ledger.replay (view v.brought v.sizes k)) (replay_given_is s.machine l.rbytes l.rlens v.brought v.sizes k q)))
             Tied.tied_replay;
       })

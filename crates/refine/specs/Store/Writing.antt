@@ -5,7 +5,7 @@ use Rattle.std.specs.Prelude.{◌≡◌, refl, List, length}
 use Rattle.std.proofs.Math.Path.{sym}
 use Rattle.std.proofs.Common.{◌∙◌, ap, subst, arith}
 use Rattle.std.proofs.Math.Option.{Option}
-use Rattle.laws.specs.Choice.{and_then, and_then_left, and_then_right, unless-done}
+use Rattle.laws.specs.Choice.{and_then, and_then_left, and_then_right, unless_done}
 use Rattle.laws.specs.Around.{clipped_around_fits}
 use Rattle.layout.specs.declared.Geometry.{Geometry}
 use Rattle.interval.specs.declared.JournalInterval.{JournalInterval}
@@ -84,8 +84,8 @@ module _ (g : Geometry) (l : Lent) (v : Given) (s : Store) (id1 : ℕ) (id2 : Ma
   pub lent_written : (q : ℕ) → q ≡ 0 → written_lent g l s q b ≡ after
   lent_written q e =
       λ i.
-      with_journal (with_pending l (unless-done q l.bytes after.bytes e i) (unless-done q l.lens after.lens e i))
-      (unless-done q l.blocks after.blocks e i) (unless-done q l.marks after.marks e i)
+      with_journal (with_pending l (unless_done q l.bytes after.bytes e i) (unless_done q l.lens after.lens e i))
+      (unless_done q l.blocks after.blocks e i) (unless_done q l.marks after.marks e i)
 
   module _ (z : SizedStore s) (met : StoreMet g l s z) (a : ask_write_back_journal_req_step g s.machine id1 id2 b ≡ 0) where
     ready : s.machine.kind ≡ kind.Ready
@@ -117,13 +117,13 @@ module _ (g : Geometry) (l : Lent) (v : Given) (s : Store) (id1 : ℕ) (id2 : Ma
         met.disk.lent.blocks_right.size holds)
         ∙ ap (λ (n : ℕ). blocks_in n (sent_range s.machine b l.bytes l.lens l.blocks 0)) (sym count)
 
-    module _ (d : ask_recv_write_journal g s.disk.journal_writes id1 id2 at ≡ 0) where
+    module _ (d : ask_recv_write_journal g s.disk.journalWrites id1 id2 at ≡ 0) where
       -- and goes into the ring as the disk writes its bytes
       ring_is : update_bytes l.blocks at (encode es) ≡ written_blocks g s b l.bytes l.lens l.blocks
       unfolding update_bytes
       ring_is =
           let size = met.disk.lent.blocks_right.size in
-          let f = interval_facts g at (recv_write_journal_asked g s.disk.journal_writes id1 id2 at d).valid in
+          let f = interval_facts g at (recv_write_journal_asked g s.disk.journalWrites id1 id2 at d).valid in
           clipped_around_fits l.blocks (at.start * 4096) (encode es) (omega (arith, long, count, holds, size))
           ∙ sym
           (put_view l.bytes l.lens (sent_of s.machine b).entries (sent_of s.machine b).bytes l.blocks at.start
@@ -138,7 +138,7 @@ module _ (g : Geometry) (l : Lent) (v : Given) (s : Store) (id1 : ℕ) (id2 : Ma
           D.RecvWriteJournal g (seen g l s).disk (disk_of g x.0 after.marks next.disk) id1 x.1 (record { start = at.start; journal = x.2 }))
           (λ i. (ring_is i, same_id id2 i, range_is i))
           (disk.write_clauses g s.disk id1 id2 at (encode es) l.blocks l.marks z.disk met.disk
-          (asks_new_blocks g s.disk.journal_writes id1 id2 at (encode es) long d))
+          (asks_new_blocks g s.disk.journalWrites id1 id2 at (encode es) long d))
 
   pub write_takes : (z : SizedStore s) → ask_store g l s ≡ 0 → (o : DiskOp) → (write_journal g s id1 id2 b).answer ≡ answer.Next o
       → Takes g format limits (seen g l s) (seen g (written_lent g l s (ask_write_journal g s id1 id2 b) b) (write_journal g s id1 id2 b).store) (call_of v (step.WriteBackJournalReq id1 id2))
@@ -146,7 +146,7 @@ module _ (g : Geometry) (l : Lent) (v : Given) (s : Store) (id1 : ℕ) (id2 : Ma
   write_takes z e o y =
       let met = store_met g l s z e in
       let q : ℕ = ask_write_back_journal_req_step g s.machine id1 id2 b in
-      let r : ℕ = ask_recv_write_journal g s.disk.journal_writes id1 id2 at in
+      let r : ℕ = ask_recv_write_journal g s.disk.journalWrites id1 id2 at in
       answered_takes g l s (and_then q r) (write_op g s id1 id2 b) next (written_lent g l s (and_then q r) b) after (call_of v (step.WriteBackJournalReq id1 id2)) o y
       (lent_written (and_then q r))
       (λ h.

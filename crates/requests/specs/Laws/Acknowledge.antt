@@ -4,7 +4,7 @@ use Rattle.std.proofs.Math.Bool.{cond}
 use Rattle.std.proofs.Common.{sym, ◌∙◌, arith, eqb-true, eq-eqb}
 use Rattle.std.proofs.Math.Path.{ap}
 use Rattle.std.proofs.Math.Option.{some}
-use Rattle.laws.specs.Choice.{and_then, and_then_left, and_then_right, and_then_both, ask, ask_yes, ask_holds, false-true, split-bool}
+use Rattle.laws.specs.Choice.{and_then, and_then_left, and_then_right, and_then_both, ask, ask_yes, ask_holds, false_true, split_bool}
 use Rattle.laws.specs.Sets.{ids_of}
 use Rattle.interval.specs.declared.JournalInterval.{JournalInterval}
 use Rattle.superblock.specs.declared.Superblock.{Superblock}
@@ -12,7 +12,7 @@ use Rattle.superblock.specs.declared.MaybeSuperblock.{MaybeSuperblock}
 use Rattle.superblock.specs.declared.MaybeSuperblock.TheVariants as slot
 use Rattle.superblock.specs.declared.SuperblockRead.{SuperblockRead}
 use Rattle.superblock.specs.declared.SuperblockRead.TheVariants as read
-use Rattle.superblock.specs.Laws.{same_superblock, superblock_same}
+use Rattle.superblock.specs.Laws.{same_superblock_is, superblock_same}
 use Rattle.journal.specs.Memory.{full_marks, ask_readable}
 use Rattle.journal.specs.Asked.{readable_asked, asked_readable}
 use Rattle.tables.specs.declared.IntervalTable.{IntervalTable}
@@ -82,7 +82,7 @@ module _ (r : SuperblockReads) (which id : ℕ) where
 pub whole_holds : (x : MaybeSuperblock) → may_read true x ≡ true → (s : Superblock) × (x ≡ slot.Holds s)
 unfolding may_read
 whole_holds (slot.Holds s) e = (s, refl)
-whole_holds slot.Empty e = false-true e
+whole_holds slot.Empty e = false_true e
 
 pub holds_whole : (s : Superblock) → may_read true (slot.Holds s) ≡ true
 unfolding may_read
@@ -104,8 +104,8 @@ read_damaged x = refl
 -- exactly what the slot holds
 pub whole_held : (x : MaybeSuperblock) (s : Superblock) → holds_read x (read.Whole s) ≡ true → x ≡ slot.Holds s
 unfolding holds_read
-whole_held (slot.Holds t) s e = ap slot.Holds (same_superblock t s e)
-whole_held slot.Empty s e = false-true e
+whole_held (slot.Holds t) s e = ap slot.Holds (same_superblock_is t s e)
+whole_held slot.Empty s e = false_true e
 
 pub held_whole : (s : Superblock) → holds_read (slot.Holds s) (read.Whole s) ≡ true
 unfolding holds_read
@@ -142,7 +142,7 @@ module _ (t : IntervalTable) (id : ℕ) (whole : Bool) (marks : List ℕ) where
   unfolding ask_ack_read_journal readable
   asks_ack_read_journal w f =
       and_then_both (ask 5 (ids_of (take t.count t.ids) id)) readable (ask_holds 5 (ids_of (take t.count t.ids) id) w)
-      (split-bool whole
+      (split_bool whole
       (λ h. ap (λ (b : Bool). cond b (ask_readable (held_interval t id) marks) 0) h ∙ asked_readable (held_interval t id) marks (f h))
       (λ h. ap (λ (b : Bool). cond b (ask_readable (held_interval t id) marks) 0) h))
 
@@ -177,10 +177,10 @@ module _ (s : Slots) (w : SuperblockWrites) (which id : ℕ) where
       (and_then_both (ask 5 same_id) (ask 6 has_landed) (ask_holds 5 same_id a.id_is) (ask_holds 6 has_landed a.is_landed))
 
 -- the write with this id, and the slot that holds its superblock
-pub is_write : (x : SuperblockWrite) (id : ℕ) → is_write x id ≡ true → (s : Superblock) × (x ≡ write.Writing id s)
+pub is_write_is : (x : SuperblockWrite) (id : ℕ) → is_write x id ≡ true → (s : Superblock) × (x ≡ write.Writing id s)
 unfolding is_write
-is_write (write.Writing k s) id e = (s, ap (λ (n : ℕ). write.Writing n s) (eqb-true k id e))
-is_write write.NoWrite id e = false-true e
+is_write_is (write.Writing k s) id e = (s, ap (λ (n : ℕ). write.Writing n s) (eqb-true k id e))
+is_write_is write.NoWrite id e = false_true e
 
 pub write_is : (id : ℕ) (s : Superblock) → is_write (write.Writing id s) id ≡ true
 unfolding is_write
@@ -188,8 +188,8 @@ write_is id s = eq-eqb id id refl
 
 pub landed_holds : (x : MaybeSuperblock) (id : ℕ) (s : Superblock) → landed x (write.Writing id s) ≡ true → x ≡ slot.Holds s
 unfolding landed
-landed_holds (slot.Holds t) id s e = ap slot.Holds (same_superblock t s e)
-landed_holds slot.Empty id s e = false-true e
+landed_holds (slot.Holds t) id s e = ap slot.Holds (same_superblock_is t s e)
+landed_holds slot.Empty id s e = false_true e
 
 pub holds_landed : (id : ℕ) (s : Superblock) → landed (slot.Holds s) (write.Writing id s) ≡ true
 unfolding landed
@@ -206,11 +206,11 @@ unfolding ask_ack_write_journal
 asks_ack_write_journal t id w = ask_holds 5 (ids_of (take t.count t.ids) id) w
 
 -- the reads without an answered one, and a table without it
-pub read_acked : (r : SuperblockReads) (which id : ℕ)
+pub read_acked_is : (r : SuperblockReads) (which id : ℕ)
     → read_acked r which id ≡ put_reads r which (removed_id (reads_at r which) (place_of id (take (reads_at r which).count (reads_at r which).ids)))
 unfolding read_acked
-read_acked r which id = refl
+read_acked_is r which id = refl
 
-pub interval_left : (t : IntervalTable) (id : ℕ) → interval_left t id ≡ removed_interval t (place_of id (take t.count t.ids))
+pub interval_left_is : (t : IntervalTable) (id : ℕ) → interval_left t id ≡ removed_interval t (place_of id (take t.count t.ids))
 unfolding interval_left
-interval_left t id = refl
+interval_left_is t id = refl

@@ -78,9 +78,9 @@ module _ (which : ℕ) where
   unfolding put_reads
   reads_put r x = chosen_put which r.first r.second x
 
-  pub write_at : (w : SuperblockWrites) → write_at w which ≡ at (write_pair w) (bit_of which)
+  pub write_at_is : (w : SuperblockWrites) → write_at w which ≡ at (write_pair w) (bit_of which)
   unfolding write_at
-  write_at w = chosen_at which w.first w.second
+  write_at_is w = chosen_at which w.first w.second
 
   pub write_put : (w : SuperblockWrites) (x : SuperblockWrite) → write_pair (put_write w which x) ≡ put (write_pair w) (bit_of which) x
   unfolding put_write

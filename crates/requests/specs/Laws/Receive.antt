@@ -4,13 +4,13 @@ use Rattle.std.proofs.Math.Bool.{not}
 use Rattle.std.proofs.Math.Path.{sym}
 use Rattle.std.proofs.Common.{◌∙◌, ap, arith, ne_eqb}
 use Rattle.std.proofs.lemmas.Bool.{eqb-false}
-use Rattle.laws.specs.Choice.{also, also_left, also_right, also_both, either, either_neither, neither_left, neither_right, and_then, and_then_left, and_then_right, and_then_both, and_then_done, and_then_first, ask, ask_yes, ask_holds, ask_fails, not_true, false-true}
+use Rattle.laws.specs.Choice.{also, also_left, also_right, also_both, either, either_neither, neither_left, neither_right, and_then, and_then_left, and_then_right, and_then_both, and_then_done, and_then_first, ask, ask_yes, ask_holds, ask_fails, not_true, false_true}
 use Rattle.laws.specs.Sets.{ids_of}
 use Rattle.layout.specs.declared.Geometry.{Geometry}
 use Rattle.interval.specs.declared.JournalInterval.{JournalInterval}
 use Rattle.interval.specs.Answer.{maybe_interval}
 use Rattle.interval.specs.Interval.{interval, valid_journal_interval, contiguous_journal_interval}
-use Rattle.interval.specs.Laws.{parts_wrapped}
+use Rattle.interval.proofs.Laws.{parts_wrapped}
 use Rattle.superblock.specs.declared.Superblock.{Superblock}
 use Rattle.superblock.specs.declared.MaybeId.{MaybeId}
 use Rattle.superblock.specs.declared.MaybeId.TheVariants as maybe
@@ -18,7 +18,7 @@ use Rattle.tables.specs.declared.IntervalTable.{IntervalTable}
 use Rattle.tables.specs.Rows.{has_room, ask_add}
 use Rattle.tables.specs.IdTable.{id_set, added_id}
 use Rattle.tables.specs.IntervalTable.{added_interval}
-use Rattle.tables.specs.Laws.Counts.{no_room, add_full}
+use Rattle.tables.proofs.Laws.Counts.{no_room, add_full}
 use Rattle.requests.specs.declared.SuperblockReads.{SuperblockReads}
 use Rattle.requests.specs.declared.SuperblockWrite.TheVariants as write
 use Rattle.requests.specs.declared.SuperblockWrites.{SuperblockWrites}
@@ -109,24 +109,24 @@ pub record RecvWriteSuperblockAsked (w : SuperblockWrites) (which id : ℕ) : Ty
   pub new2 : is_write w.second id ≡ false
 
 module _ (w : SuperblockWrites) (which id : ℕ) where
-  in_flight : Bool
-  in_flight = either (is_write w.first id) (is_write w.second id)
+  in_flight_is : Bool
+  in_flight_is = either (is_write w.first id) (is_write w.second id)
 
   pub recv_write_superblock_asked : ask_recv_write_superblock w which id ≡ 0 → RecvWriteSuperblockAsked w which id
-  unfolding ask_recv_write_superblock in_flight
+  unfolding ask_recv_write_superblock in_flight_is
   recv_write_superblock_asked e =
-      let n = not_true in_flight (ask_yes 5 (not in_flight) (omega arith) (and_then_right (ask_which which) (ask 5 (not in_flight)) e)) in
+      let n = not_true in_flight_is (ask_yes 5 (not in_flight_is) (omega arith) (and_then_right (ask_which which) (ask 5 (not in_flight_is)) e)) in
       record {
-        which_in = which_asked which (and_then_left (ask_which which) (ask 5 (not in_flight)) e);
+        which_in = which_asked which (and_then_left (ask_which which) (ask 5 (not in_flight_is)) e);
         new1 = neither_left (is_write w.first id) (is_write w.second id) n;
         new2 = neither_right (is_write w.first id) (is_write w.second id) n;
       }
 
   pub asks_recv_write_superblock : RecvWriteSuperblockAsked w which id → ask_recv_write_superblock w which id ≡ 0
-  unfolding ask_recv_write_superblock in_flight
+  unfolding ask_recv_write_superblock in_flight_is
   asks_recv_write_superblock a =
-      and_then_both (ask_which which) (ask 5 (not in_flight)) (asked_which which a.which_in)
-      (ask_holds 5 (not in_flight) (ap not (either_neither (is_write w.first id) (is_write w.second id) a.new1 a.new2)))
+      and_then_both (ask_which which) (ask 5 (not in_flight_is)) (asked_which which a.which_in)
+      (ask_holds 5 (not in_flight_is) (ap not (either_neither (is_write w.first id) (is_write w.second id) a.new1 a.new2)))
 
 -- a write with another id, and none
 pub other_write : (k id : ℕ) (s : Superblock) → is_write (write.Writing k s) id ≡ false → k ≡ id → ⊥
@@ -214,7 +214,7 @@ new_none t = refl
 -- a second id exactly where the write passes the end, and unlike the first
 pub straight_one : (id1 : ℕ) (id2 : MaybeId) → second_fits true id1 id2 ≡ true → id2 ≡ maybe.NoId
 unfolding second_fits also
-straight_one id1 (maybe.Id id) e = false-true e
+straight_one id1 (maybe.Id id) e = false_true e
 straight_one id1 maybe.NoId e = refl
 
 pub one_straight : (id1 : ℕ) → second_fits true id1 maybe.NoId ≡ true
@@ -224,7 +224,7 @@ one_straight id1 = refl
 pub wrapped_two : (id1 : ℕ) (id2 : MaybeId) → second_fits false id1 id2 ≡ true → (id : ℕ) × (id2 ≡ maybe.Id id) × (id ≡ id1 → ⊥)
 unfolding second_fits also
 wrapped_two id1 (maybe.Id id) e = (id, refl, eqb-false id id1 (not_true (eqb id id1) e))
-wrapped_two id1 maybe.NoId e = false-true e
+wrapped_two id1 maybe.NoId e = false_true e
 
 pub two_wrapped : (id1 id : ℕ) → (id ≡ id1 → ⊥) → second_fits false id1 (maybe.Id id) ≡ true
 unfolding second_fits also
@@ -253,6 +253,6 @@ write_wrapped g t id1 id v h =
     λ i. added_part (added_part t id1 (maybe_interval (p.front_is i))) id (maybe_interval (p.back_is i))
 
 -- the reads with one more
-pub read_received : (r : SuperblockReads) (which id : ℕ) → read_received r which id ≡ put_reads r which (added_id (reads_at r which) id)
+pub read_received_is : (r : SuperblockReads) (which id : ℕ) → read_received r which id ≡ put_reads r which (added_id (reads_at r which) id)
 unfolding read_received
-read_received r which id = refl
+read_received_is r which id = refl

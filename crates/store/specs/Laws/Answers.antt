@@ -3,7 +3,7 @@ use Rattle.std.specs.Prelude.{ℕ, Bool, true, false, cond, ◌≡◌, refl, Lis
 use Rattle.std.proofs.Math.Path.{sym, ap}
 use Rattle.std.proofs.Common.{◌∙◌}
 use Rattle.std.proofs.Math.Logic.{inl, inr, ⊎_elim}
-use Rattle.laws.specs.Choice.{and_then, and_then_first, and_then_done, unless, unless-kept, unless-done, refused-said, asked_yes, asked_no, asked_either, split-eq, ruin}
+use Rattle.laws.specs.Choice.{and_then, and_then_first, and_then_done, unless, unless_kept, unless_done, refused_said, asked_yes, asked_no, asked_either, split_eq, ruin}
 use Rattle.layout.specs.declared.Geometry.{Geometry}
 use Rattle.superblock.specs.declared.DiskOp.{DiskOp}
 use Rattle.superblock.specs.declared.DiskOp.TheVariants as op
@@ -29,7 +29,7 @@ use Rattle.store.specs.Steps.{ask_both, both, machine_refusal, disk_refusal, ans
 -- one number: a no, and a yes
 pub answered_not : (q n : ℕ) (op : DiskOp) (next s : Store) → (q ≡ 0 → ⊥) × (n ≡ q) → refused s n ≡ answered q op next s
 unfolding answered
-answered_not q n op next s f = refused-said n q (accepted op next) (refused s) f.1 (λ z. f.0 (sym f.1 ∙ z))
+answered_not q n op next s f = refused_said n q (accepted op next) (refused s) f.1 (λ z. f.0 (sym f.1 ∙ z))
 
 pub answered_is : (q : ℕ) (o op : DiskOp) (x next s : Store) → q ≡ 0 → o ≡ op → x ≡ next → accepted o x ≡ answered q op next s
 unfolding answered
@@ -101,7 +101,7 @@ module _ (g : Geometry) (s : Store) where
     where
       cases : (n : ℕ) → ((n ≡ 0) × (M.accepted op next ≡ M.answered n op next m)) ⊎ ((n ≡ 0 → ⊥) × (M.refused m n ≡ M.answered n op next m))
       cases n =
-          split-eq n 0
+          split_eq n 0
           (λ h. inl (h, sym (machineAnswers.asked_next n op next m h)))
           (λ h. inr (h, sym (machineAnswers.asked_refused n op next m h)))
 

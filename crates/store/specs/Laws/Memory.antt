@@ -2,7 +2,7 @@
 use Rattle.std.specs.Prelude.{ℕ, Bool, true, false, cond, ◌≡◌, refl, List, eqb, take, drop}
 use Rattle.std.proofs.Math.Path.{sym, ap}
 use Rattle.std.proofs.Common.{◌∙◌}
-use Rattle.laws.specs.Choice.{unless, unless-kept, unless-done, asked_no}
+use Rattle.laws.specs.Choice.{unless, unless_kept, unless_done, asked_no}
 use Rattle.laws.specs.Splice.{splice}
 use Rattle.layout.specs.declared.Geometry.{Geometry}
 use Rattle.interval.specs.declared.JournalInterval.{JournalInterval}
@@ -30,7 +30,7 @@ use Rattle.requests.specs.Acknowledge.{held_interval, ask_ack_read_journal}
 use Rattle.disk.specs.Next.{ack_read_journal_next, journal_answered}
 use Rattle.requests.specs.Landing.{ask_land}
 use Rattle.disk.specs.Next.{land_next}
-use Rattle.disk.specs.Laws.Answers.{done_asked, asked_done, refused_asked, asked_refused, journal_refused, journal_read, asked_journal_read, journal_same}
+use Rattle.disk.specs.Laws.Answers.{done_asked, asked_done, refused_asked, asked_refused, journal_refused_is, journal_read_is, asked_journal_read, journal_same}
 use Rattle.store.specs.declared.Store.{Store}
 use Rattle.store.specs.declared.StoreAnswer.TheVariants as answer
 use Rattle.store.specs.declared.StoreStepped.{StoreStepped}
@@ -47,10 +47,10 @@ module _ (q : ℕ) (op : DiskOp) (next s : Store) (r : StoreStepped) (e : r ≡ 
   answer_yes o h = answers.next_asked q op next s o (sym (ap (λ (x : StoreStepped). x.answer) e) ∙ h)
 
   pub answer_kept : (n : ℕ) (old new : List ℕ) → r.answer ≡ answer.Refused n → old ≡ unless q old new
-  answer_kept n old new h = sym (unless-kept q old new (answer_no n h))
+  answer_kept n old new h = sym (unless_kept q old new (answer_no n h))
 
   pub answer_changed : (o : DiskOp) (x old new : List ℕ) → r.answer ≡ answer.Next o → x ≡ new → x ≡ unless q old new
-  answer_changed o x old new h p = p ∙ sym (unless-done q old new (answer_yes o h).0)
+  answer_changed o x old new h p = p ∙ sym (unless_done q old new (answer_yes o h).0)
 
 -- a journal write
 module _ (g : Geometry) (s : Store) (id1 : ℕ) (id2 : MaybeId) (b : Bodies) (r : StoreStepped) (e : r ≡ write_journal g s id1 id2 b) (bytes lens blocks marks : List ℕ) where
@@ -100,25 +100,25 @@ marks_at marks z v w p e = e ∙ ap (update_marks marks) p
 
 -- a journal read's answer
 module _ (g : Geometry) (s : Store) (id : ℕ) (whole : Bool) (marks : List ℕ) (e : JournalAcked)
-    (he : e ≡ journal_answered (ask_ack_read_journal s.disk.journal_reads id whole marks) (held_interval s.disk.journal_reads id) (ack_read_journal_next s.disk id) s.disk) where
+    (he : e ≡ journal_answered (ask_ack_read_journal s.disk.journalReads id whole marks) (held_interval s.disk.journalReads id) (ack_read_journal_next s.disk id) s.disk) where
   abbrev asks : ℕ
-  asks = ask_ack_read_journal s.disk.journal_reads id whole marks
+  asks = ask_ack_read_journal s.disk.journalReads id whole marks
 
   number : (n : ℕ) → e.answer ≡ journalAnswer.Refused n → n ≡ asks
   unfolding journal_answered
   number n h =
       let k : e.answer ≡ journalAnswer.Refused asks =
       ap (λ (y : JournalAcked). y.answer)
-      (he ∙ asked_no {A = JournalAcked} asks (record { answer = journalAnswer.Read (held_interval s.disk.journal_reads id); disk = ack_read_journal_next s.disk id })
-      (record { answer = journalAnswer.Refused asks; disk = s.disk }) (journal_refused asks _ _ s.disk e he n h)) in
+      (he ∙ asked_no {A = JournalAcked} asks (record { answer = journalAnswer.Read (held_interval s.disk.journalReads id); disk = ack_read_journal_next s.disk id })
+      (record { answer = journalAnswer.Refused asks; disk = s.disk }) (journal_refused_is asks _ _ s.disk e he n h)) in
       cc
 
   pub read_refused : (n : ℕ) (pieces new : List ℕ) → e.answer ≡ journalAnswer.Refused n
       → (refused s n ≡ journal_read s id whole marks) × (pieces ≡ unless (ask_journal_read s id whole marks) pieces new)
   unfolding ask_journal_read
   read_refused n pieces new h =
-      let f = journal_refused asks _ _ s.disk e he n h in
-      (answers.answered_not asks n _ _ s (f, number n h), sym (unless-kept asks pieces new f))
+      let f = journal_refused_is asks _ _ s.disk e he n h in
+      (answers.answered_not asks n _ _ s (f, number n h), sym (unless_kept asks pieces new f))
 
   pub read_taken : (v : JournalInterval) (read : JournalRead) (p : Paged) (m : Machine) (blocks pieces x : List ℕ) → e.answer ≡ journalAnswer.Read v → read ≡ read_of whole
       → p ≡ paged_in g s.machine id read → m ≡ page_in_journal_resp_machine s.machine id read
@@ -127,12 +127,12 @@ module _ (g : Geometry) (s : Store) (id : ℕ) (whole : Bool) (marks : List ℕ)
       × (x ≡ unless (ask_journal_read s id whole marks) pieces (read_pieces g s id whole blocks pieces))
   unfolding ask_journal_read
   read_taken v read p m blocks pieces x h hr hp hm hx =
-      let k = journal_read asks _ _ s.disk e he v h in
+      let k = journal_read_is asks _ _ s.disk e he v h in
       let d : e.disk ≡ ack_read_journal_next s.disk id = ap (λ (y : JournalAcked). y.disk) (he ∙ asked_journal_read asks _ _ s.disk k.0) in
       let place : p ≡ paged_in g s.machine id (read_of whole) = hp ∙ ap (paged_in g s.machine id) hr in (
         answers.answered_is asks (op.RespReadJournal id read) _ (store m e.disk) _ s k.0 (ap (op.RespReadJournal id) hr)
             (λ i. store ((hm ∙ ap (page_in_journal_resp_machine s.machine id) hr) i) (d i)),
-        hx ∙ (λ i. copy_blocks blocks (k.1 i).start (place i).len pieces (place i).place) ∙ sym (unless-done asks pieces _ k.0),
+        hx ∙ (λ i. copy_blocks blocks (k.1 i).start (place i).len pieces (place i).place) ∙ sym (unless_done asks pieces _ k.0),
       )
 
 -- answers whose slot, or whose superblock, is the disk's own

@@ -2,7 +2,7 @@
 use Rattle.std.specs.Prelude.{ℕ, Bool, List, ◌≡◌, refl}
 use Rattle.std.proofs.Math.Path.{sym}
 use Rattle.std.proofs.Common.{◌∙◌, ap}
-use Rattle.laws.specs.Choice.{unless, unless-kept, unless-done, refused-said, asked_yes}
+use Rattle.laws.specs.Choice.{unless, unless_kept, unless_done, refused_said, asked_yes}
 use Rattle.layout.specs.declared.Geometry.{Geometry}
 use Rattle.superblock.specs.declared.MaybeId.{MaybeId}
 use Rattle.superblock.specs.declared.DiskOp.TheVariants as op
@@ -26,7 +26,7 @@ use Rattle.store.specs.Whole.{asked, bodies, write_back_journal_req, write_back_
 module _ (k q : ℕ) (e : k ≡ q) (s : Store) where
   pub asked_first : (r : StoreStepped) → (k ≡ 0 → ⊥) → refused s k ≡ asked q r s
   unfolding asked
-  asked_first r h = refused-said k q r (refused s) e h
+  asked_first r h = refused_said k q r (refused s) e h
 
   pub asked_then : (r x : StoreStepped) → k ≡ 0 → x ≡ r → x ≡ asked q r s
   unfolding asked
@@ -34,10 +34,10 @@ module _ (k q : ℕ) (e : k ≡ q) (s : Store) where
 
   -- with lent memory
   pub kept_first : (r : StoreStepped) (l after : Lent) → (k ≡ 0 → ⊥) → (refused s k ≡ asked q r s) × (l ≡ unless q l after)
-  kept_first r l after h = (asked_first r h, sym (unless-kept q l after (λ z. h (e ∙ z))))
+  kept_first r l after h = (asked_first r h, sym (unless_kept q l after (λ z. h (e ∙ z))))
 
   pub kept_then : (r x : StoreStepped) (l after y : Lent) → k ≡ 0 → x ≡ r → y ≡ after → (x ≡ asked q r s) × (y ≡ unless q l after)
-  kept_then r x l after y h p w = (asked_then r x h p, w ∙ sym (unless-done q l after (sym e ∙ h)))
+  kept_then r x l after y h p w = (asked_then r x h p, w ∙ sym (unless_done q l after (sym e ∙ h)))
 
 -- by what was found in pending memory: b stands in the definitions, v was found
 module _ (q : ℕ) (b : Bodies) (a : Asked) (e : a ≡ questions.found q b) (s : Store) (l : Lent) where
@@ -165,8 +165,8 @@ module _ (g : Geometry) (l : Lent) (s : Store) where
 
     pub crash_taken : (x : StoreStepped) (blocks marks : List ℕ) → k ≡ 0
         → (x ≡ accepted op.NoDiskOp (one.crashed s))
-        × ((blocks ≡ crashed_blocks s.disk.journal_writes picture l.blocks)
-        × (marks ≡ crashed_marks s.disk.journal_writes pictured l.marks))
+        × ((blocks ≡ crashed_blocks s.disk.journalWrites picture l.blocks)
+        × (marks ≡ crashed_marks s.disk.journalWrites pictured l.marks))
         → (x ≡ crash g l s picture pictured)
         × ((blocks ≡ (crash_lent g l s picture pictured).blocks)
         × (marks ≡ (crash_lent g l s picture pictured).marks))

@@ -1,0 +1,11 @@
+pub mod Calls
+pub mod Covering
+pub mod Drive
+pub mod Example
+pub mod Journal
+pub mod Loads
+pub mod Reach
+pub mod Simulation
+pub mod Whole
+pub mod Demand
+pub mod Sync

@@ -1,0 +1,3 @@
+pub mod Laws
+pub mod Update
+pub mod Meets
