@@ -1,0 +1,12 @@
+use Rattle.laws.specs.Choice.{tests}
+use Rattle.disk.specs.Next.{ack_read_superblock_next}
+use Rattle.disk.specs.Disk.{answered}
+use Rattle.disk.proofs.Disk.read_superblock_as.Goals as goal
+
+pub returns-then-q-ne0 : goal.returns-then-q-ne0
+unfolding answered ack_read_superblock_next
+returns-then-q-ne0 c = search (tests, c.refused.ensures, ← c.ask_read_superblock_as-q.ensures)
+
+pub returns : goal.returns
+unfolding answered ack_read_superblock_next
+returns c = search (tests, c.done.ensures, ← c.read_acked-next.ensures, ← c.ask_read_superblock_as-q.ensures)

@@ -1,0 +1,12 @@
+use Rattle.laws.specs.Choice.{tests}
+use Rattle.disk.specs.Next.{recv_read_superblock_next}
+use Rattle.disk.specs.Disk.{answered}
+use Rattle.disk.proofs.Disk.recv_read_superblock_asked.Goals as goal
+
+pub returns-then-q-ne0 : goal.returns-then-q-ne0
+unfolding answered recv_read_superblock_next
+returns-then-q-ne0 c = search (tests, c.refused.ensures, ← c.ask_recv_read_superblock-q.ensures)
+
+pub returns : goal.returns
+unfolding answered recv_read_superblock_next
+returns c = search (tests, c.done.ensures, ← c.read_received-next.ensures, ← c.ask_recv_read_superblock-q.ensures)

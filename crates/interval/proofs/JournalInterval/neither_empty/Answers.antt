@@ -1,0 +1,6 @@
+use Rattle.laws.specs.Choice.{tests, also}
+use Rattle.interval.proofs.JournalInterval.neither_empty.Goals as goal
+
+pub returns : goal.returns
+unfolding also
+returns c = search tests

@@ -1,0 +1,13 @@
+use Prim.Native.Nat.{◌-◌, ◌≤◌}
+use lib.ListN.{length, drop}
+use mathlib.Core.Path.{◌≡◌}
+use Rattle.journal.specs.Memory.{is_mark}
+use Rattle.laws.specs.Choice.{also}
+use Rattle.laws.specs.Fold.{every}
+use Rattle.journal.proofs.questions.marks_ok.Given as goal
+
+abbrev pub invariant-loop-i : goal.invariant-loop-i
+invariant-loop-i l = (l.i ≤ length l.marks) × (also l.ok (every is_mark (drop l.i l.marks)) ≡ every is_mark l.marks)
+
+abbrev pub decreases-loop-i : goal.decreases-loop-i
+decreases-loop-i l = length l.marks - l.i

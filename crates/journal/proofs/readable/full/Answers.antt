@@ -1,0 +1,18 @@
+use Prim.Native.Nat.{◌+◌, ◌-◌}
+use native.Mathlib.Omega.{arith}
+use Rattle.journal.specs.Memory.{is_one, slice_marks, full_marks}
+use Rattle.laws.specs.Around.{every_around}
+use Rattle.laws.specs.Choice.{also}
+use Rattle.journal.proofs.readable.full.Goals as goal
+
+pub returns : goal.returns
+unfolding full_marks slice_marks also
+returns c =
+    let p3 = c in
+    let p2 = c in
+    let p1 = c in
+    let a = c.args in
+    every_around a.marks.now a.v.start a.v.len c.lesser-place.result c.lesser-first.result c.lesser-rest.result
+    (c.lesser-place.result + c.lesser-first.result - c.lesser-place.result) (c.lesser-rest.result - 0)
+    c.lesser-place.ensures c.lesser-first.ensures c.lesser-rest.ensures (omega arith) (omega arith)
+    is_one _ _ c.all_one-a.ensures c.all_one-b.ensures

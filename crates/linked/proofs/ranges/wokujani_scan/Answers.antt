@@ -1,0 +1,13 @@
+use Rattle.range.specs.Form.{all_entries}
+use Rattle.reader.specs.Answer.{scanned_total, scanned_refused}
+use Rattle.linked.specs.Answer.{gives, keeps}
+use mathlib.Core.Path.{sym, ◌∙◌}
+use Rattle.linked.proofs.ranges.wokujani_scan.Goals as goal
+
+pub returns-in-Total : goal.returns-in-Total
+returns-in-Total c =
+    let f = scanned_total _ _ _ _ (sym c.in-Total.is ∙ c.scan-c.ensures) in record { value = sym f.0; found_after = gives _ _ _ _ f.0 f.1; size_after = gives _ _ _ _ f.0 f.2 }
+
+pub returns-in-Refused : goal.returns-in-Refused
+returns-in-Refused c =
+    let f = scanned_refused _ _ (all_entries c.args.s.now) (sym c.in-Refused.is ∙ c.scan-c.ensures) in record { value = f.0; found_after = keeps _ _ _ f.1; size_after = keeps _ _ _ f.1 }

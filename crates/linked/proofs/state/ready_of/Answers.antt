@@ -1,0 +1,4 @@
+use Rattle.linked.proofs.state.ready_of.Goals as goal
+
+pub returns : goal.returns
+returns c = cc

@@ -1,0 +1,11 @@
+use Rattle.machine.specs.Loading.{ask_ask_again_step}
+use Rattle.laws.specs.Choice.{tests, and_then}
+use Rattle.machine.proofs.Machine.ask_ask_again.Goals as goal
+
+pub returns-then-q-ne0 : goal.returns-then-q-ne0
+unfolding ask_ask_again_step and_then
+returns-then-q-ne0 c = search (tests, ← c.ask_loading_superblock-q.ensures)
+
+pub returns : goal.returns
+unfolding ask_ask_again_step and_then
+returns c = search (tests, ← c.ask_ask_again.ensures, ← c.ask_loading_superblock-q.ensures)

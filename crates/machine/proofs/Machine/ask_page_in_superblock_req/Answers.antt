@@ -1,0 +1,11 @@
+use Rattle.machine.specs.Loading.{ask_page_in_superblock_req_step}
+use Rattle.laws.specs.Choice.{tests, and_then}
+use Rattle.machine.proofs.Machine.ask_page_in_superblock_req.Goals as goal
+
+pub returns-then-q-ne0 : goal.returns-then-q-ne0
+unfolding ask_page_in_superblock_req_step and_then
+returns-then-q-ne0 c = search (tests, ← c.ask_loading_superblock-q.ensures)
+
+pub returns : goal.returns
+unfolding ask_page_in_superblock_req_step and_then
+returns c = search (tests, ← c.ask_page_in_superblock_req.ensures, ← c.ask_loading_superblock-q.ensures)

@@ -1,0 +1,13 @@
+use mathlib.Core.Path.{◌∙◌}
+use Rattle.ready.specs.CommitSteps.{advance_log_next}
+use Rattle.machine.specs.Laws.Parts.{commit_refused, commit_taken, log_is}
+use Rattle.machine.specs.Working.{advance_log_machine}
+use Rattle.machine.proofs.Machine.write_back_superblock_req_advance_log_asked.Goals as goal
+
+pub returns-then-q-ne0 : goal.returns-then-q-ne0
+unfolding advance_log_machine
+returns-then-q-ne0 c = c.refused.ensures ∙ commit_refused _ c.args.id _ _ (λ x. advance_log_next c.args.self.ready c.args.id x) _ (log_is _ _ _ c.log_new-new.ensures) _ c.new_refusal-q.ensures c.if-q-ne0.true
+
+pub returns : goal.returns
+unfolding advance_log_machine
+returns c = commit_taken _ c.args.id _ _ (λ x. advance_log_next c.args.self.ready c.args.id x) _ (log_is _ _ _ c.log_new-new.ensures) _ c.new_refusal-q.ensures c.if-q-ne0.false _ _ c.new_in-superblock.ensures c.log_next-committing.ensures _ c.commit_sent.ensures
