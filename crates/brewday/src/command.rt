@@ -3,7 +3,7 @@ use calls::Step;
 use superblock::MaybeId;
 use words::{Parsed, Word};
 
-#[derive(Drop)]
+#[derive(Clone, Copy)]
 pub enum Command {
     Is(Step),
     Not,

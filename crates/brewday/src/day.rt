@@ -5,7 +5,7 @@ use layout::Geometry;
 use store::Store;
 
 // The store so far, the place of the next line, and the number of the last one.
-#[derive(Drop)]
+#[derive(Clone, Copy)]
 pub struct Day {
     pub store: Store,
     pub at: usize,
@@ -36,6 +36,7 @@ fn place_after(end: usize) -> usize {
 
 // What a line comes to: its row, and the store after it. A line that isn't a command says so and alters nothing.
 fn play(
+    rt: &impl Print,
     s: Store,
     n: u64,
     c: Command,
@@ -50,7 +51,7 @@ fn play(
     marks: &mut [u8],
 ) -> Store {
     let Command::Is(x) = c else {
-        row::not_a_command(n);
+        row::not_a_command(rt, n);
         return s;
     };
     let none = [0u8; 1];
@@ -73,11 +74,12 @@ fn play(
     let next = r.store;
     let a = r.answer;
     let m = next.machine;
-    row::print(n, a, m);
+    row::print(rt, n, a, m);
     next
 }
 
 pub(crate) fn turn(
+    rt: &impl Print,
     d: Day,
     input: &[u8],
     bytes: &mut [u8],
@@ -100,7 +102,7 @@ pub(crate) fn turn(
     let mut sizes = [0u16; 1];
     let c = command::parse(input, from, end, &mut brought, &mut sizes);
     let next = play(
-        s, n, c, &brought, &sizes, bytes, lens, pieces, rbytes, rlens, blocks, marks,
+        rt, s, n, c, &brought, &sizes, bytes, lens, pieces, rbytes, rlens, blocks, marks,
     );
     Day {
         store: next,

@@ -1,5 +1,7 @@
 // A brew day at N = 8, T = 4,096 (document 01): a line of input is a command, and a row of output says what it came to. A line that isn't a
 // command says so with its number, alters nothing, and the day goes on.
+#![tactic(auto)]
+
 mod command;
 mod day;
 mod row;
@@ -8,9 +10,10 @@ ghost use Rattle.std.specs.Prelude.{◌≡◌, ◌-◌, ◌<◌};
 
 use day::Day;
 use layout::Location;
-use libc::{STDIN_FILENO, STDOUT_FILENO};
 use requests::Slots;
+use std::io::Read;
 use store::Store;
+use streams::read_full;
 use superblock::{MaybeSuperblock, Superblock};
 
 // Both slots: counter 0, an empty journal from block 0, table 1 with length 4,096.
@@ -42,6 +45,7 @@ fn one_less(turns: usize) -> usize
 
 // Each turn takes one line; there are no more lines than bytes.
 fn run(
+    rt: &impl Print,
     mut d: Day,
     input: &[u8],
     bytes: &mut [u8],
@@ -54,23 +58,25 @@ fn run(
 ) {
     let mut turns = input.len();
     while 0 < turns {
-        d = day::turn(d, input, bytes, lens, pieces, rbytes, rlens, blocks, marks);
+        d = day::turn(
+            rt, d, input, bytes, lens, pieces, rbytes, rlens, blocks, marks,
+        );
         turns = one_less(turns);
     }
 }
 
 // Is there more on standard input than was read?
-fn is_longer(read: usize) -> bool {
+fn is_longer(stdin: &mut impl Read, read: usize) -> bool {
     if read < 65536 {
         return false;
     }
     let mut one = [0u8; 1];
-    let more = io::read_full(STDIN_FILENO, &mut one);
+    let more = read_full(stdin, &mut one);
     0 < more
 }
 
-fn main() {
-    let mut input = io::large_buffer();
+fn main(rt: HostRuntime) {
+    let mut input = [0u8; 65536];
     let mut bytes = [0u8; 65536];
     let mut lens = [0u16; 1024];
     let mut pieces = [0u8; 32768];
@@ -78,16 +84,13 @@ fn main() {
     let mut rlens = [0u16; 32768];
     let mut blocks = [0u8; 32768];
     let mut marks = [0u8; 8];
-    let n = io::read_full(STDIN_FILENO, &mut input);
-    let more = is_longer(n);
+    let n = read_full(&mut rt.stdin(), &mut input);
+    let more = is_longer(&mut rt.stdin(), n);
     if more {
-        io::write_all(
-            STDOUT_FILENO,
-            b"the input is longer than 65536 bytes: no line of it was run\n",
-        );
+        let _ = println!(rt; "the input is longer than 65536 bytes: no line of it was run");
         return;
     }
-    io::write_all(STDOUT_FILENO, b"n r k c s l w\n");
+    let _ = println!(rt; "n r k c s l w");
     let s = first_store();
     let d = Day {
         store: s,
@@ -95,6 +98,7 @@ fn main() {
         row: 0,
     };
     run(
+        &rt,
         d,
         &input[..n],
         &mut bytes,

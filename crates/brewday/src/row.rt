@@ -1,5 +1,4 @@
 // A row of output: line, refusal or 0, kind, counter, start, len, written; a dash where the kind lacks it.
-use libc::STDOUT_FILENO;
 use machine::{Kind, Machine};
 use store::StoreAnswer;
 use superblock::Superblock;
@@ -11,47 +10,44 @@ fn refusal(a: StoreAnswer) -> u64 {
     }
 }
 
-fn column(n: u64) {
-    io::write_all(STDOUT_FILENO, b" ");
-    io::print_decimal(STDOUT_FILENO, n);
+fn column(rt: &impl Print, n: u64) {
+    let _ = print!(rt; " {n}");
 }
 
-fn superblock(s: Superblock) {
-    column(s.counter);
-    column(s.journalStart);
-    column(s.journalLen);
+fn superblock(rt: &impl Print, s: Superblock) {
+    column(rt, s.counter);
+    column(rt, s.journalStart);
+    column(rt, s.journalLen);
 }
 
-fn state(m: Machine) {
+fn state(rt: &impl Print, m: Machine) {
     let kind = m.kind;
     match kind {
         Kind::LoadingSuperblock => {
-            io::write_all(STDOUT_FILENO, b" S - - - -\n");
+            let _ = println!(rt; " S - - - -");
         }
         Kind::LoadingOther => {
-            io::write_all(STDOUT_FILENO, b" O");
+            let _ = print!(rt; " O");
             let other = m.other;
-            superblock(other.superblock);
-            io::write_all(STDOUT_FILENO, b" -\n");
+            superblock(rt, other.superblock);
+            let _ = println!(rt; " -");
         }
         Kind::Ready => {
-            io::write_all(STDOUT_FILENO, b" R");
+            let _ = print!(rt; " R");
             let ready = m.ready;
-            superblock(ready.superblock);
-            column(ready.writtenJournalLen);
-            io::write_all(STDOUT_FILENO, b"\n");
+            superblock(rt, ready.superblock);
+            column(rt, ready.writtenJournalLen);
+            let _ = println!(rt);
         }
     }
 }
 
-pub(crate) fn print(row: u64, a: StoreAnswer, m: Machine) {
-    io::print_decimal(STDOUT_FILENO, row);
-    column(refusal(a));
-    state(m);
+pub(crate) fn print(rt: &impl Print, row: u64, a: StoreAnswer, m: Machine) {
+    let _ = print!(rt; "{row}");
+    column(rt, refusal(a));
+    state(rt, m);
 }
 
-pub(crate) fn not_a_command(row: u64) {
-    io::write_all(STDOUT_FILENO, b"line ");
-    io::print_decimal(STDOUT_FILENO, row);
-    io::write_all(STDOUT_FILENO, b" is not a command\n");
+pub(crate) fn not_a_command(rt: &impl Print, row: u64) {
+    let _ = println!(rt; "line {row} is not a command");
 }

@@ -4,7 +4,7 @@ use tables::{IdTable, IntervalTable};
 use words::{Parsed, Word};
 
 // The writes under the ids 1, 2, 3 .., as the disk holds them, and their ids, as the machine awaits them. `ok`: the line is a store.
-#[derive(Drop)]
+#[derive(Clone, Copy)]
 pub(crate) struct Handed {
     pub ok: bool,
     pub selected: JournalInterval,
@@ -15,7 +15,7 @@ pub(crate) struct Handed {
 const MOST_WRITES: u64 = 16;
 
 // An interval, and the place behind its two words; or none.
-#[derive(Drop)]
+#[derive(Clone, Copy)]
 enum Pair {
     Is {
         interval: JournalInterval,

@@ -1,5 +1,7 @@
 // What a disk and a store answer to a state that is handed in, with journal writes in flight that no calls from `Init` lead to: a line of input is a
 // store, a row of output what two calls came to. docs/HANDED.md has both, and what is said on standard error.
+#![tactic(auto)]
+
 mod answers;
 mod input;
 mod line;
@@ -8,10 +10,8 @@ mod state;
 
 ghost use Rattle.std.specs.Prelude.{◌≡◌, ◌-◌, ◌<◌};
 
-use libc::{STDERR_FILENO, STDOUT_FILENO};
-
 // The place of the next line, the number of the last one, and whether every row was written.
-#[derive(Drop)]
+#[derive(Clone, Copy)]
 pub struct Lines {
     pub at: usize,
     pub row: u64,
@@ -34,7 +34,7 @@ fn after(n: u64) -> u64 {
 }
 
 // One line and its row; nothing where the input is over, or a row could not be written.
-fn turn(l: Lines, input: &[u8]) -> Lines {
+fn turn(rt: &impl Print, l: Lines, input: &[u8]) -> Lines {
     let from = l.at;
     if input.len() <= from {
         return l;
@@ -51,7 +51,7 @@ fn turn(l: Lines, input: &[u8]) -> Lines {
     }
     let n = after(l.row);
     let h = line::read(&input[from..end]);
-    let written = row::answer(n, h);
+    let written = row::answer(rt, n, h);
     Lines {
         at: after(end as u64) as usize,
         row: n,
@@ -60,8 +60,8 @@ fn turn(l: Lines, input: &[u8]) -> Lines {
 }
 
 // Each turn takes one line; there are no more lines than bytes.
-fn run(input: &[u8]) -> bool {
-    let written = io::write_all(STDOUT_FILENO, b"n d s\n");
+fn run(rt: &impl Print, input: &[u8]) -> bool {
+    let written = println!(rt; "n d s").is_ok();
     let mut l = Lines {
         at: 0,
         row: 0,
@@ -69,29 +69,28 @@ fn run(input: &[u8]) -> bool {
     };
     let mut turns = input.len();
     while 0 < turns {
-        l = turn(l, input);
+        l = turn(rt, l, input);
         turns = one_less(turns);
     }
     l.written
 }
 
-fn main() {
-    let mut buffer = io::large_buffer();
-    let i = input::read(&mut buffer);
+fn main(rt: HostRuntime) {
+    let mut buffer = [0u8; 65536];
+    let i = input::read(&mut rt.stdin(), &mut buffer);
     if i.failed {
-        io::write_all(STDERR_FILENO, b"handed: standard input can't be read\n");
+        let _ = eprintln!(rt; "handed: standard input can't be read");
         return;
     }
     if i.more {
-        io::write_all(
-            STDERR_FILENO,
-            b"handed: the input is longer than 65536 bytes: no line of it was read\n",
+        let _ = eprintln!(rt;
+            "handed: the input is longer than 65536 bytes: no line of it was read"
         );
         return;
     }
     let end = runs::lesser(i.len, buffer.len());
-    let written = run(&buffer[0..end]);
+    let written = run(&rt, &buffer[0..end]);
     if !written {
-        io::write_all(STDERR_FILENO, b"handed: the rows can't be written\n");
+        let _ = eprintln!(rt; "handed: the rows can't be written");
     }
 }

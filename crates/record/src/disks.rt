@@ -9,6 +9,8 @@ use journal::bytes_of;
 use layout::Geometry;
 use runs::lesser;
 use sector::SECTOR_SIZE;
+use std::env::Env;
+use std::io::Stdout;
 use superblock::Superblock;
 
 const HEAD_SIZE: usize = Geometry::JOURNAL_START_ADDR as usize;
@@ -74,6 +76,7 @@ fn put_refused(g: Geometry, number: u8, sectors: Sectors, text: &mut [u8], r: Ro
 
 // All rows of a disk, by memory of the lengths that N asks for.
 fn put_disk(
+    out: Stdout,
     g: Geometry,
     disk: &[u8],
     pieces: &mut [u8],
@@ -84,7 +87,7 @@ fn put_disk(
     let first = read_slot(disk, 0);
     let second = read_slot(disk, SECTOR_SIZE);
     let sectors = Sectors { first, second };
-    let none = rows::none();
+    let none = rows::none(out);
     let r = slots::put_slots(g, sectors, text, none);
     let found = image::record(g, disk, pieces, rbytes, rlens);
     put_found(g, found, sectors, disk, pieces, rbytes, rlens, text, r)
@@ -92,6 +95,7 @@ fn put_disk(
 
 // The rows of a disk whose bytes are read. Were they written? The memory is made for 256 blocks; what N blocks take of it is lent.
 fn show_read(
+    out: Stdout,
     g: Geometry,
     disk: &[u8],
     pieces: &mut [u8],
@@ -103,6 +107,7 @@ fn show_read(
     let b = bytes_of(g.blocks, rbytes.len());
     let c = bytes_of(g.blocks, rlens.len());
     let r = put_disk(
+        out,
         g,
         disk,
         &mut pieces[0..a],
@@ -115,6 +120,7 @@ fn show_read(
 }
 
 fn show_named(
+    rt: &HostRuntime,
     g: Geometry,
     name: &[u8],
     disk: &mut [u8],
@@ -125,15 +131,16 @@ fn show_named(
 ) -> bool {
     let size = bytes_of(g.blocks, pieces.len());
     let d = lesser(HEAD_SIZE + size, disk.len());
-    let read = input::load(name, g.blocks, &mut disk[0..d]);
+    let read = input::load(rt, name, g.blocks, &mut disk[0..d]);
     if read {
-        return show_read(g, &disk[0..d], pieces, rbytes, rlens, text);
+        return show_read(rt.stdout(), g, &disk[0..d], pieces, rbytes, rlens, text);
     }
     true
 }
 
 // The disk whose file is argument i. No where its rows couldn't be written: then nothing more can be.
 pub(crate) fn show(
+    rt: &HostRuntime,
     i: usize,
     disk: &mut [u8],
     pieces: &mut [u8],
@@ -142,14 +149,13 @@ pub(crate) fn show(
     text: &mut [u8],
 ) -> bool {
     let mut name = [0u8; 4095];
-    let n = os::arg(i, &mut name);
-    if os::errno() != 0 {
-        said::no_name(i);
+    let Ok(n) = rt.arg(i, &mut name) else {
+        said::no_name(rt, i);
         return true;
-    }
-    let asked = arguments::geometry(i, &name[..n]);
+    };
+    let asked = arguments::geometry(rt, i, &name[..n]);
     match asked {
-        Asked::Is(g) => show_named(g, &name[..n], disk, pieces, rbytes, rlens, text),
+        Asked::Is(g) => show_named(rt, g, &name[..n], disk, pieces, rbytes, rlens, text),
         Asked::Told => true,
     }
 }

@@ -6,7 +6,7 @@ use text::{put, put_hex};
 
 // How far the rows came: the next range's first block and its place in the interval's bytes, the next entry and where its body begins in
 // replay memory.
-#[derive(Drop)]
+#[derive(Clone, Copy)]
 pub(crate) struct Walk {
     pub rows: Rows,
     pub block: u64,
@@ -23,7 +23,7 @@ fn put_entry(number: u64, body: &[u8], text: &mut [u8], r: Rows) -> Rows {
     let c = put_number(body.len() as u64, text, b);
     let d = put(b" ", text, c);
     let e = put_hex(body, text, d);
-    rows::end(s.ok, text, e)
+    rows::end(s, text, e)
 }
 
 fn wide(x: u16) -> usize {

@@ -1,49 +1,59 @@
 // A file's bytes.
 use super::said;
+use std::fs::File;
+use std::io;
+use std::io::Read;
 
-// So many bytes; `failed`: a read failed, and errno says why.
-#[derive(Drop)]
-struct Input {
-    len: usize,
-    failed: bool,
+// The error of a name that isn't UTF-8, by which std opens no file: Linux's "Invalid or incomplete multibyte or wide character".
+const EILSEQ: i32 = 84;
+
+fn open(rt: &HostRuntime, name: &[u8]) -> io::Result<File> {
+    match str::from_utf8(name) {
+        Ok(path) => File::open(rt, path),
+        Err(_) => Err(io::Error::from_raw_os_error(EILSEQ)),
+    }
 }
 
-// A read that fails and the file's end both leave the memory short: one more read tells them apart. It brings nothing at the end.
-fn read(fd: i32, disk: &mut [u8]) -> Input {
-    let len = io::read_full(fd, disk);
-    if len == disk.len() {
-        return Input { len, failed: false };
+// Bytes to the front of `disk` until it is full or the file ends: how many.
+fn read(file: &mut File, disk: &mut [u8]) -> io::Result<usize> {
+    let mut len = 0;
+    while len < disk.len() {
+        let n = file.read(&mut disk[len..])?;
+        if n == 0 {
+            break;
+        }
+        len += n;
     }
-    let mut next = [0u8; 1];
-    let after = libc::read(fd, &mut next);
-    Input {
-        len,
-        failed: after != 0,
-    }
+    Ok(len)
 }
 
 // Are the disk's bytes all there? Else a line says why not.
-fn told(i: Input, name: &[u8], blocks: u64, size: usize) -> bool {
-    if i.failed {
-        said::failed(name);
-        return false;
+fn told(rt: &HostRuntime, read: io::Result<usize>, name: &[u8], blocks: u64, size: usize) -> bool {
+    match read {
+        Ok(len) => {
+            if len < size {
+                said::too_short(rt, name, len, blocks, size);
+                return false;
+            }
+            true
+        },
+        Err(error) => {
+            said::failed(rt, name, error);
+            false
+        },
     }
-    if i.len < size {
-        said::too_short(name, i.len, blocks, size);
-        return false;
-    }
-    true
 }
 
 // The first bytes of a file to `disk`, as many as it has: are they there?
-pub(crate) fn load(name: &[u8], blocks: u64, disk: &mut [u8]) -> bool {
-    let fd = os::open_read(name);
-    if fd < 0 {
-        said::failed(name);
-        return false;
+pub(crate) fn load(rt: &HostRuntime, name: &[u8], blocks: u64, disk: &mut [u8]) -> bool {
+    match open(rt, name) {
+        Ok(mut file) => {
+            let len = read(&mut file, disk);
+            told(rt, len, name, blocks, disk.len())
+        },
+        Err(error) => {
+            said::failed(rt, name, error);
+            false
+        },
     }
-    let i = read(fd, disk);
-    let ok = told(i, name, blocks, disk.len());
-    libc::close(fd);
-    ok
 }

@@ -16,7 +16,7 @@ fn put_range(block: u64, c: Contents, text: &mut [u8], r: Rows) -> Rows {
     let b = put_number(block, text, a);
     let d = put_number(c.blocks as u64, text, b);
     let e = put_number(c.entries as u64, text, d);
-    rows::end(s.ok, text, e)
+    rows::end(s, text, e)
 }
 
 // The block behind so many, going round.

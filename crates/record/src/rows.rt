@@ -1,30 +1,40 @@
 // Rows are gathered in lent text, and written when a row more might not fit.
-use libc::STDOUT_FILENO;
 use runs::lesser;
+use std::io::Stdout;
 use text::{put, put_decimal};
 
-// So many bytes are gathered; `ok`: no write has failed.
-#[derive(Drop)]
+// So many bytes are gathered for `out`; `ok`: no write has failed.
+#[derive(Clone, Copy)]
 pub(crate) struct Rows {
     pub at: usize,
     pub ok: bool,
+    pub out: Stdout,
 }
 
 // More than the longest row has: an entry of 255 bytes, two digits each, and two numbers.
 const ROW_SIZE: usize = 1024;
 
-pub(crate) fn none() -> Rows {
-    Rows { at: 0, ok: true }
+pub(crate) fn none(out: Stdout) -> Rows {
+    Rows {
+        at: 0,
+        ok: true,
+        out,
+    }
 }
 
 // What is gathered is written; after a write that failed nothing is.
 pub(crate) fn flush(r: Rows, text: &[u8]) -> Rows {
+    let out = r.out;
     if !r.ok {
-        return Rows { at: 0, ok: false };
+        return Rows {
+            at: 0,
+            ok: false,
+            out,
+        };
     }
     let n = lesser(r.at, text.len());
-    let ok = io::write_all(STDOUT_FILENO, &text[0..n]);
-    Rows { at: 0, ok }
+    let ok = out.write_all(&text[0..n]).is_ok();
+    Rows { at: 0, ok, out }
 }
 
 // Room for one row more.
@@ -42,10 +52,14 @@ pub(crate) fn put_number(n: u64, text: &mut [u8], at: usize) -> usize {
     put_decimal(n, text, a)
 }
 
-// The row's end.
-pub(crate) fn end(ok: bool, text: &mut [u8], at: usize) -> Rows {
+// The row's end, behind what is gathered from `at` on.
+pub(crate) fn end(r: Rows, text: &mut [u8], at: usize) -> Rows {
     let a = put(b"\n", text, at);
-    Rows { at: a, ok }
+    Rows {
+        at: a,
+        ok: r.ok,
+        out: r.out,
+    }
 }
 
 // A word and a number: `refused 12`.
@@ -53,7 +67,7 @@ pub(crate) fn put_one(word: &[u8], a: u64, text: &mut [u8], r: Rows) -> Rows {
     let s = room(r, text);
     let b = put(word, text, s.at);
     let c = put_number(a, text, b);
-    end(s.ok, text, c)
+    end(s, text, c)
 }
 
 // A word and two numbers: `front 6 2`.
@@ -62,5 +76,5 @@ pub(crate) fn put_two(word: &[u8], a: u64, b: u64, text: &mut [u8], r: Rows) -> 
     let c = put(word, text, s.at);
     let d = put_number(a, text, c);
     let e = put_number(b, text, d);
-    end(s.ok, text, e)
+    end(s, text, e)
 }

@@ -8,7 +8,7 @@ use superblock::{Superblock, select_superblock};
 use text::put;
 
 // What the two sectors are read as.
-#[derive(Drop)]
+#[derive(Clone, Copy)]
 pub(crate) struct Sectors {
     pub first: SectorRead,
     pub second: SectorRead,
@@ -47,7 +47,7 @@ pub(crate) fn put_slot(slot: u64, g: Geometry, read: SectorRead, text: &mut [u8]
     let a = put(b"slot", text, s.at);
     let b = put_number(slot, text, a);
     let c = put_read(g, read, text, b);
-    rows::end(s.ok, text, c)
+    rows::end(s, text, c)
 }
 
 pub(crate) fn put_slots(g: Geometry, sectors: Sectors, text: &mut [u8], r: Rows) -> Rows {
@@ -94,7 +94,7 @@ pub(crate) fn put_selected(g: Geometry, sectors: Sectors, text: &mut [u8], r: Ro
     let room = rows::room(r, text);
     let which = select(first, second);
     let a = put_selection(which, text, room.at);
-    let b = rows::end(room.ok, text, a);
+    let b = rows::end(room, text, a);
     let chosen = select_superblock(s, t);
     put_parts(g, chosen, text, b)
 }

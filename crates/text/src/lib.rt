@@ -3,6 +3,8 @@
 //   put_decimal   a number in decimal digits
 //   put_hex       bytes, each as two small hexadecimal digits
 // Every function is total, and answers the place after what it wrote: the text's end where it was cut.
+#![tactic(auto)]
+
 mod digits;
 mod pieces;
 

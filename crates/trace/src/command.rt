@@ -6,7 +6,7 @@ use superblock::MaybeId;
 use words::{Parsed, Word};
 
 // `Drive` is the step that the loading driver names.
-#[derive(Drop)]
+#[derive(Clone, Copy)]
 pub(crate) enum Command {
     Is(Step),
     Drive,

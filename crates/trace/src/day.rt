@@ -8,7 +8,7 @@ use runs::lesser;
 use store::Store;
 
 // The store so far, the number of the last line, and whether a step came already.
-#[derive(Drop)]
+#[derive(Clone, Copy)]
 pub(crate) struct Day {
     pub store: Store,
     pub row: u64,
@@ -44,9 +44,17 @@ fn command_of(line: &[u8], i: Input, brought: &mut [u8], sizes: &mut [u16]) -> C
 }
 
 // A line that isn't a step: before the first one it may say what a block holds, else a row says that it isn't one.
-fn other_line(begun: bool, n: u64, line: &[u8], i: Input, blocks: &mut [u8], marks: &mut [u8]) {
+fn other_line(
+    rt: &HostRuntime,
+    begun: bool,
+    n: u64,
+    line: &[u8],
+    i: Input,
+    blocks: &mut [u8],
+    marks: &mut [u8],
+) {
     if begun | i.long {
-        row::not_a_step(n);
+        row::not_a_step(rt, n);
         return;
     }
     let end = lesser(i.len, line.len());
@@ -54,11 +62,12 @@ fn other_line(begun: bool, n: u64, line: &[u8], i: Input, blocks: &mut [u8], mar
     if stored {
         return;
     }
-    row::not_a_step(n);
+    row::not_a_step(rt, n);
 }
 
 // The line, where one was read, as a step; a row is printed for it.
 pub(crate) fn turn(
+    rt: &HostRuntime,
     d: Day,
     g: Geometry,
     line: &[u8],
@@ -83,16 +92,18 @@ pub(crate) fn turn(
     match c {
         Command::Is(x) => {
             let next = taking::step(
-                s, g, n, x, &brought, &sizes, bytes, lens, pieces, rbytes, rlens, blocks, marks,
+                rt, s, g, n, x, &brought, &sizes, bytes, lens, pieces, rbytes, rlens, blocks, marks,
             );
             at_row(next, n, true)
         },
         Command::Drive => {
-            let next = taking::drive(s, g, n, bytes, lens, pieces, rbytes, rlens, blocks, marks);
+            let next = taking::drive(
+                rt, s, g, n, bytes, lens, pieces, rbytes, rlens, blocks, marks,
+            );
             at_row(next, n, true)
         },
         Command::Not => {
-            other_line(d.begun, n, line, i, blocks, marks);
+            other_line(rt, d.begun, n, line, i, blocks, marks);
             at_row(s, n, d.begun)
         },
     }

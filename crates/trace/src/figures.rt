@@ -2,7 +2,7 @@
 use words::Parsed;
 
 // The numbers of a line: up to 12 of them, as a disk has.
-#[derive(Drop)]
+#[derive(Clone, Copy)]
 pub(crate) struct Numbers {
     pub ok: bool,
     pub count: usize,

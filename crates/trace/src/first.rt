@@ -7,7 +7,7 @@ use superblock::{MaybeSuperblock, Superblock};
 const MOST_BLOCKS: u64 = 32;
 
 // `ok`: the line is a disk.
-#[derive(Drop)]
+#[derive(Clone, Copy)]
 pub(crate) struct First {
     pub ok: bool,
     pub geometry: Geometry,

@@ -1,10 +1,10 @@
 // Standard input, line by line: it comes in chunks, and only the chunk and the line are held.
-use libc::STDIN_FILENO;
 use runs::copy_bytes;
+use std::io::{Read, Stdin};
 
 // What isn't yet taken of the chunk lies from `at` up to `end`. The line has `len` bytes so far; `long`: it has more than its buffer holds.
 // `whole`: that is all of it; `ended`: no more is read.
-#[derive(Drop)]
+#[derive(Clone, Copy)]
 pub(crate) struct Input {
     pub at: usize,
     pub end: usize,
@@ -12,9 +12,10 @@ pub(crate) struct Input {
     pub long: bool,
     pub whole: bool,
     pub ended: bool,
+    pub from: Stdin,
 }
 
-pub(crate) fn begin() -> Input {
+pub(crate) fn begin(from: Stdin) -> Input {
     Input {
         at: 0,
         end: 0,
@@ -22,13 +23,21 @@ pub(crate) fn begin() -> Input {
         long: false,
         whole: false,
         ended: false,
+        from,
+    }
+}
+
+// What a read brings; a read that fails brings nothing, as at the input's end.
+fn read(mut from: Stdin, chunk: &mut [u8]) -> usize {
+    match from.read(chunk) {
+        Ok(n) => n,
+        Err(_) => 0,
     }
 }
 
 // The next chunk. At the input's end a line without a line feed is whole.
 fn fill(i: Input, chunk: &mut [u8]) -> Input {
-    let got = libc::read(STDIN_FILENO, chunk);
-    let n = io::count(got, chunk);
+    let n = read(i.from, chunk);
     if n == 0 {
         let some = 0 < i.len;
         return Input {
@@ -38,6 +47,7 @@ fn fill(i: Input, chunk: &mut [u8]) -> Input {
             long: i.long,
             whole: some | i.long,
             ended: true,
+            from: i.from,
         };
     }
     Input {
@@ -47,6 +57,7 @@ fn fill(i: Input, chunk: &mut [u8]) -> Input {
         long: i.long,
         whole: false,
         ended: false,
+        from: i.from,
     }
 }
 
@@ -91,6 +102,7 @@ fn take(i: Input, chunk: &[u8], line: &mut [u8]) -> Input {
             long: true,
             whole: found,
             ended: false,
+            from: i.from,
         };
     }
     copy_bytes(chunk, i.at, count, line, i.len);
@@ -101,6 +113,7 @@ fn take(i: Input, chunk: &[u8], line: &mut [u8]) -> Input {
         long: false,
         whole: found,
         ended: false,
+        from: i.from,
     }
 }
 
@@ -120,6 +133,7 @@ pub(crate) fn read_line(last: Input, chunk: &mut [u8], line: &mut [u8]) -> Input
         long: false,
         whole: false,
         ended: last.ended,
+        from: last.from,
     };
     let mut turns = u64::MAX;
     while 0 < turns {

@@ -2,57 +2,93 @@
 use image::write_image;
 use journal::bytes_of;
 use layout::Geometry;
-use libc::STDERR_FILENO;
 use requests::Slots;
 use runs::lesser;
+use std::env::{Env, FillError};
+use std::fs::File;
+use std::io;
+use std::io::Write;
 use text::put;
 
 const HEAD_SIZE: usize = Geometry::JOURNAL_START_ADDR as usize;
 
+// The error of a name that isn't UTF-8, by which std opens no file: Linux's "Invalid or incomplete multibyte or wide character".
+const EILSEQ: i32 = 84;
+
+// Is there an argument i? One that is longer than no bytes is there too.
+fn has_argument(rt: &HostRuntime, i: usize) -> bool {
+    let mut none = [0u8; 0];
+    !matches!(rt.arg(i, &mut none), Err(FillError::NotPresent))
+}
+
+// A line that can't be written is lost.
+fn say(rt: &HostRuntime, line: &[u8]) {
+    let _ = rt.stderr().write_all(line);
+}
+
 // More arguments than one, which a line says.
-pub(crate) fn are_too_many() -> bool {
-    if os::arg_count() < 3 {
+pub(crate) fn are_too_many(rt: &HostRuntime) -> bool {
+    if !has_argument(rt, 2) {
         return false;
     }
-    io::write_all(
-        STDERR_FILENO,
+    say(
+        rt,
         b"trace: expected at most one argument, a file for the disk's bytes\n",
     );
     true
 }
 
-// The name, and the system's words for what just failed.
-fn say_failed(name: &[u8]) {
-    let mut line = [0u8; 4160];
-    let a = put(b"trace: ", &mut line, 0);
-    let end = put(name, &mut line, a);
-    let n = lesser(end, line.len());
-    os::fail(&line[0..n]);
+// The system's words for an error, without the number that std puts behind them. No words where memory is short.
+fn put_words(rt: &HostRuntime, error: io::Error, line: &mut [u8], at: usize) -> usize {
+    let Ok(said) = format!(in rt.alloc(); "{error}") else {
+        return at;
+    };
+    let all = said.as_str();
+    match all.split_once(" (os error ") {
+        Some((words, _)) => put(words.as_bytes(), line, at),
+        None => put(all.as_bytes(), line, at),
+    }
 }
 
-fn write_file(name: &[u8], bytes: &[u8]) {
-    let fd = os::open_overwrite(name);
-    if fd < 0 {
-        say_failed(name);
-        return;
+// The name, and the system's words for what just failed.
+fn say_failed(rt: &HostRuntime, name: &[u8], error: io::Error) {
+    let mut line = [0u8; 4224];
+    let a = put(b"trace: ", &mut line, 0);
+    let b = put(name, &mut line, a);
+    let c = put(b": ", &mut line, b);
+    let d = put_words(rt, error, &mut line, c);
+    let end = put(b"\n", &mut line, d);
+    let n = lesser(end, line.len());
+    say(rt, &line[0..n]);
+}
+
+// The file, made where there is none, and empty.
+fn overwrite(rt: &HostRuntime, name: &[u8]) -> io::Result<File> {
+    match str::from_utf8(name) {
+        Ok(path) => File::create(rt, path),
+        Err(_) => Err(io::Error::from_raw_os_error(EILSEQ)),
     }
-    let written = io::write_all(fd, bytes);
-    let closed = libc::close(fd) == 0;
-    if written & closed {
-        return;
+}
+
+fn write_file(rt: &HostRuntime, name: &[u8], bytes: &[u8]) {
+    match overwrite(rt, name) {
+        Ok(mut file) => {
+            if file.write_all(bytes).is_err() {
+                say(rt, b"trace: the disk's bytes can't be written\n");
+            }
+        },
+        Err(error) => say_failed(rt, name, error),
     }
-    io::write_all(STDERR_FILENO, b"trace: the disk's bytes can't be written\n");
 }
 
 // To the file that the argument names; one that is too long names none.
-fn write_named(bytes: &[u8]) {
+fn write_named(rt: &HostRuntime, bytes: &[u8]) {
     let mut name = [0u8; 4095];
-    let n = os::arg(1, &mut name);
-    if os::errno() != 0 {
-        os::fail(b"trace: argument 1");
+    let Ok(n) = rt.arg(1, &mut name) else {
+        say(rt, b"trace: argument 1: File name too long\n");
         return;
-    }
-    write_file(&name[..n], bytes);
+    };
+    write_file(rt, &name[..n], bytes);
 }
 
 // The image of what the slots hold and of these blocks, to the front of `disk`: how long it is.
@@ -66,16 +102,16 @@ fn write_disk(g: Geometry, slots: Slots, blocks: &[u8], disk: &mut [u8]) -> usiz
 }
 
 // By memory for 32 blocks.
-fn keep_disk(g: Geometry, slots: Slots, blocks: &[u8]) {
+fn keep_disk(rt: &HostRuntime, g: Geometry, slots: Slots, blocks: &[u8]) {
     let mut disk = [0u8; 139264];
     let n = write_disk(g, slots, blocks, &mut disk);
     let end = lesser(n, disk.len());
-    write_named(&disk[0..end]);
+    write_named(rt, &disk[0..end]);
 }
 
 // Where an argument names a file, the disk's bytes go to it.
-pub(crate) fn keep(g: Geometry, slots: Slots, blocks: &[u8]) {
-    if 1 < os::arg_count() {
-        keep_disk(g, slots, blocks);
+pub(crate) fn keep(rt: &HostRuntime, g: Geometry, slots: Slots, blocks: &[u8]) {
+    if has_argument(rt, 1) {
+        keep_disk(rt, g, slots, blocks);
     }
 }

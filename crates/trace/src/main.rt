@@ -1,6 +1,8 @@
 // A day of the store, traced: the first line of input is a disk, lines behind it may say what its blocks hold, each other line is a step, and a row of
 // output says what it came to. A line that isn't a step says so with its number, alters nothing, and the day goes on. Only the line and the next chunk
 // of input are held. Where an argument names a file, the disk's bytes are written to it at the day's end.
+#![tactic(auto)]
+
 mod brought;
 mod command;
 mod day;
@@ -36,6 +38,7 @@ fn turns_left(turns: u64, read: bool) -> u64
 // Each turn takes one line; the turns are counted down from a number that no day uses up. At the day's end the disk
 // may be kept.
 fn run(
+    rt: &HostRuntime,
     mut d: Day,
     g: Geometry,
     mut i: Input,
@@ -53,12 +56,12 @@ fn run(
     while 0 < turns {
         i = input::read_line(i, chunk, line);
         d = day::turn(
-            d, g, line, i, bytes, lens, pieces, rbytes, rlens, blocks, marks,
+            rt, d, g, line, i, bytes, lens, pieces, rbytes, rlens, blocks, marks,
         );
         turns = turns_left(turns, i.whole);
     }
     let last = day::slots(d);
-    kept::keep(g, last, blocks);
+    kept::keep(rt, g, last, blocks);
 }
 
 // The first line as a disk.
@@ -69,6 +72,7 @@ fn first_disk(line: &[u8], i: Input) -> First {
 
 // The store's memory is made for 32 blocks; what N blocks take of it is lent.
 fn play(
+    rt: &HostRuntime,
     from: Day,
     g: Geometry,
     i: Input,
@@ -88,6 +92,7 @@ fn play(
     let d = bytes_of(g.blocks, blocks.len());
     let e = lesser(g.blocks as usize, marks.len());
     run(
+        rt,
         from,
         g,
         i,
@@ -104,8 +109,8 @@ fn play(
 }
 
 // The day, by memory for 32 blocks.
-fn whole_day() {
-    let mut chunk = io::large_buffer();
+fn whole_day(rt: &HostRuntime) {
+    let mut chunk = [0u8; 65536];
     let mut line = [0u8; 16384];
     let mut bytes = [0u8; 65536];
     let mut lens = [0u16; 1024];
@@ -114,14 +119,14 @@ fn whole_day() {
     let mut rlens = [0u16; 131072];
     let mut blocks = [0u8; 131072];
     let mut marks = [0u8; 32];
-    let begun = input::begin();
+    let begun = input::begin(rt.stdin());
     let i = input::read_line(begun, &mut chunk, &mut line);
     let f = first_disk(&line, i);
     if !f.ok {
-        row::not_a_disk();
+        row::not_a_disk(rt);
         return;
     }
-    row::header();
+    row::header(rt);
     let g = f.geometry;
     let slots = f.slots;
     let s = Store::initial(slots);
@@ -131,6 +136,7 @@ fn whole_day() {
         begun: false,
     };
     play(
+        rt,
         d,
         g,
         i,
@@ -146,9 +152,9 @@ fn whole_day() {
     );
 }
 
-fn main() {
-    if kept::are_too_many() {
+fn main(rt: HostRuntime) {
+    if kept::are_too_many(&rt) {
         return;
     }
-    whole_day();
+    whole_day(&rt);
 }

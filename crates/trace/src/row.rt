@@ -1,5 +1,4 @@
 // A row of output, made in a buffer and written at once; a dash where the kind lacks the column.
-use libc::STDOUT_FILENO;
 use machine::{Kind, Machine};
 use ready::Ready;
 use runs::{lesser, write_bytes};
@@ -128,13 +127,14 @@ fn syncs(out: &mut [u8], at: usize, t: SyncTable) -> usize {
     column(out, b, q3)
 }
 
-fn write_out(row: &[u8], end: usize) {
+// A row that can't be written is lost.
+fn write_out(rt: &HostRuntime, row: &[u8], end: usize) {
     let k = lesser(end, row.len());
-    io::write_all(STDOUT_FILENO, &row[0..k]);
+    let _ = rt.stdout().write_all(&row[0..k]);
 }
 
 // The longest row: 17 columns of up to 20 digits.
-pub(crate) fn print(n: u64, a: StoreAnswer, m: Machine, h: u64) {
+pub(crate) fn print(rt: &HostRuntime, n: u64, a: StoreAnswer, m: Machine, h: u64) {
     let mut row = [0u8; 512];
     let t = m.sync;
     let q = refusal(a);
@@ -144,21 +144,23 @@ pub(crate) fn print(n: u64, a: StoreAnswer, m: Machine, h: u64) {
     let e = syncs(&mut row, d, t);
     let f = column(&mut row, e, h);
     let end = text(&mut row, f, b"\n");
-    write_out(&row, end);
+    write_out(rt, &row, end);
 }
 
-pub(crate) fn header() {
-    io::write_all(STDOUT_FILENO, b"n r k c s l w z f p m o y q1 q2 q3 h\n");
+pub(crate) fn header(rt: &HostRuntime) {
+    let row = b"n r k c s l w z f p m o y q1 q2 q3 h\n";
+    write_out(rt, row, row.len());
 }
 
-pub(crate) fn not_a_step(n: u64) {
+pub(crate) fn not_a_step(rt: &HostRuntime, n: u64) {
     let mut row = [0u8; 64];
     let a = text(&mut row, 0, b"line ");
     let b = decimal(&mut row, a, n);
     let end = text(&mut row, b, b" is not a step\n");
-    write_out(&row, end);
+    write_out(rt, &row, end);
 }
 
-pub(crate) fn not_a_disk() {
-    io::write_all(STDOUT_FILENO, b"line 0 is not a disk\n");
+pub(crate) fn not_a_disk(rt: &HostRuntime) {
+    let row = b"line 0 is not a disk\n";
+    write_out(rt, row, row.len());
 }

@@ -8,6 +8,7 @@ use store::{Store, StoreAnswer};
 
 // The row: what was answered, and what is visible of the store then.
 fn show(
+    rt: &HostRuntime,
     n: u64,
     a: StoreAnswer,
     s: Store,
@@ -26,11 +27,12 @@ fn show(
     let h = check_number(
         slots, m, g, bytes, lens, pieces, rbytes, rlens, blocks, marks,
     );
-    row::print(n, a, m, h);
+    row::print(rt, n, a, m, h);
 }
 
 // The step with the entries that it brings.
 pub(crate) fn step(
+    rt: &HostRuntime,
     s: Store,
     g: Geometry,
     n: u64,
@@ -52,13 +54,14 @@ pub(crate) fn step(
     let next = r.store;
     let a = r.answer;
     show(
-        n, a, next, g, bytes, lens, pieces, rbytes, rlens, blocks, marks,
+        rt, n, a, next, g, bytes, lens, pieces, rbytes, rlens, blocks, marks,
     );
     next
 }
 
 // The step that the driver names; it brings nothing.
 pub(crate) fn drive(
+    rt: &HostRuntime,
     s: Store,
     g: Geometry,
     n: u64,
@@ -76,13 +79,13 @@ pub(crate) fn drive(
             let brought = [0u8; 1];
             let sizes = [0u16; 1];
             step(
-                s, g, n, x, &brought, &sizes, bytes, lens, pieces, rbytes, rlens, blocks, marks,
+                rt, s, g, n, x, &brought, &sizes, bytes, lens, pieces, rbytes, rlens, blocks, marks,
             )
         },
         Drive::Refused(q) => {
             let a = StoreAnswer::Refused(q);
             show(
-                n, a, s, g, bytes, lens, pieces, rbytes, rlens, blocks, marks,
+                rt, n, a, s, g, bytes, lens, pieces, rbytes, rlens, blocks, marks,
             );
             s
         },

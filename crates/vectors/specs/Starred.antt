@@ -2,9 +2,9 @@
 -- A field gives the whole answer of a public function, as its contract has it: a question that refused this geometry would break it.
 use Rattle.std.specs.Prelude.{ℕ, ◌*◌, true, false, ◌≡◌, refl, List, [], ◌∷◌, ◌++◌, length, drop, replicate}
 use Rattle.std.proofs.Common.{◌∙◌, ap}
-use Rattle.laws.specs.Choice.{also, either, ask, and_then, unless, unless-done}
+use Rattle.laws.specs.Choice.{also, either, ask, and_then, unless, unless_done}
 use Rattle.laws.specs.Splice.{splice}
-use Rattle.laws.specs.Around.{spliceAround}
+use Rattle.laws.specs.Around.{splice_around}
 use Rattle.laws.specs.Cut.{cut, lengths}
 use Rattle.laws.specs.Fold.{sum, every}
 use Rattle.layout.specs.declared.Geometry.{Geometry}
@@ -66,7 +66,7 @@ abbrev pub wrote : ℕ → List ℕ → Written
 wrote byte journal = written (ask_write (byte ∷ []) (1 ∷ []) 1 journal 0) (blocks (view (byte ∷ []) (1 ∷ []) 1))
 
 abbrev pub left : ℕ → List ℕ → List ℕ
-left byte journal = unless (ask_write (byte ∷ []) (1 ∷ []) 1 journal 0) journal (spliceAround journal (0 * block_size) (encode (view (byte ∷ []) (1 ∷ []) 1)))
+left byte journal = unless (ask_write (byte ∷ []) (1 ∷ []) 1 journal 0) journal (splice_around journal (0 * block_size) (encode (view (byte ∷ []) (1 ∷ []) 1)))
 
 pub record Starred : Type 0 where
   -- position 6 plus 2 is 0; 6 plus 1 is 7
@@ -98,8 +98,8 @@ unfolding also ask and_then ask_write journal_ok range_ok entries_ok held_ok ok_
 asked_41 journal h = simp h
 
 put_41 : (journal : List ℕ) → length journal ≡ 8 * 4096
-    → spliceAround journal 0 (encode (view (0x41 ∷ []) (1 ∷ []) 1)) ≡ (1 ∷ 0 ∷ 1 ∷ 0 ∷ 1 ∷ 0x41 ∷ []) ++ replicate 4090 0 ++ drop 4096 journal
-unfolding spliceAround splice view cut
+    → splice_around journal 0 (encode (view (0x41 ∷ []) (1 ∷ []) 1)) ≡ (1 ∷ 0 ∷ 1 ∷ 0 ∷ 1 ∷ 0x41 ∷ []) ++ replicate 4090 0 ++ drop 4096 journal
+unfolding splice_around splice view cut
 put_41 journal h = simp (h, one_entry)
 
 pub starred : Starred
@@ -121,5 +121,5 @@ starred =
       overlap_6_4_2_4 = refl;
       overlap_3_0_1_4 = refl;
       entry_41 = λ journal h. ap (λ (q : ℕ). written q 1) (asked_41 journal h);
-      entry_41_bytes = λ journal h. unless-done _ _ _ (asked_41 journal h) ∙ put_41 journal h;
+      entry_41_bytes = λ journal h. unless_done _ _ _ (asked_41 journal h) ∙ put_41 journal h;
     }

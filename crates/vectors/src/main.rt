@@ -1,6 +1,7 @@
 // Works through the lines of document 01's brew day that have no star, at N = 8 and T = 4,096, and prints each with what it found.
+#![tactic(auto)]
+
 use layout::{Address, Decision, Geometry, Location};
-use libc::STDOUT_FILENO;
 use writer::Written;
 
 fn day() -> Geometry {
@@ -10,66 +11,60 @@ fn day() -> Geometry {
     }
 }
 
-fn print_number(n: u64) {
-    io::print_decimal(STDOUT_FILENO, n);
-    io::write_all(STDOUT_FILENO, b"\n");
+fn print_number(rt: &impl Print, n: u64) {
+    let _ = println!(rt; "{n}");
 }
 
-fn print_refusal(q: u8) {
-    io::write_all(STDOUT_FILENO, b"refused ");
-    print_number(q as u64);
+fn print_refusal(rt: &impl Print, q: u8) {
+    let _ = println!(rt; "refused {q}");
 }
 
-fn print_address(a: Address) {
+fn print_address(rt: &impl Print, a: Address) {
     match a {
-        Address::At(addr) => print_number(addr),
-        Address::Refused(q) => print_refusal(q),
+        Address::At(addr) => print_number(rt, addr),
+        Address::Refused(q) => print_refusal(rt, q),
     }
 }
 
-fn print_decision(d: Decision) {
+fn print_decision(rt: &impl Print, d: Decision) {
     match d {
         Decision::Is(b) => {
-            if b {
-                io::write_all(STDOUT_FILENO, b"valid\n");
+            let _ = if b {
+                println!(rt; "valid")
             } else {
-                io::write_all(STDOUT_FILENO, b"not valid\n");
-            }
+                println!(rt; "not valid")
+            };
         }
-        Decision::Refused(q) => print_refusal(q),
+        Decision::Refused(q) => print_refusal(rt, q),
     }
 }
 
 // Is a table of this length at table 1's address valid?
-fn table_length(len: u64) {
+fn table_length(rt: &impl Print, len: u64) {
     let loc = Location { addr: 40960, len };
-    io::write_all(STDOUT_FILENO, b"table 1 with length ");
-    io::print_decimal(STDOUT_FILENO, len);
-    io::write_all(STDOUT_FILENO, b": ");
-    print_decision(loc.valid_indirection_table_location(day()));
+    let _ = print!(rt; "table 1 with length {len}: ");
+    print_decision(rt, loc.valid_indirection_table_location(day()));
 }
 
 // The blocks of 15 entries of 255 bytes and one of `last` bytes.
-fn last_entry(last: u16) {
+fn last_entry(rt: &impl Print, last: u16) {
     let bodies = [0u8; 4096];
     let mut lengths = [255u16; 16];
     lengths[15] = last;
-    io::write_all(STDOUT_FILENO, b"15 entries of 255 bytes and one of ");
-    io::print_decimal(STDOUT_FILENO, last as u64);
-    io::write_all(STDOUT_FILENO, b", in blocks: ");
+    let _ = print!(rt; "15 entries of 255 bytes and one of {last}, in blocks: ");
     let w = writer::range_blocks(&bodies, &lengths, 16);
     match w {
-        Written::Blocks(b) => print_number(b),
-        Written::Refused(q) => print_refusal(q),
+        Written::Blocks(b) => print_number(rt, b),
+        Written::Refused(q) => print_refusal(rt, q),
     }
 }
 
-fn main() {
-    io::write_all(STDOUT_FILENO, b"table 1 is at ");
-    print_address(day().indirection_table1_addr());
-    table_length(4096);
-    table_length(0);
-    table_length(4097);
-    last_entry(251);
-    last_entry(252);
+fn main(rt: HostRuntime) {
+    let _ = print!(rt; "table 1 is at ");
+    print_address(&rt, day().indirection_table1_addr());
+    table_length(&rt, 4096);
+    table_length(&rt, 0);
+    table_length(&rt, 4097);
+    last_entry(&rt, 251);
+    last_entry(&rt, 252);
 }
