@@ -1,4 +1,4 @@
-/* The journal store's functions for C and whatever reads C headers. `rt staticlib linked` proves them and writes
+/* The journal store's functions for C and whatever reads C headers. `tools/build linked` proves them and writes
  * target/staticlib/liblinked.a; docs/LINKING.md says what each does and has an example.
  *
  * Each answers 0, or the number of the question that was answered no; then nothing that was lent is altered, but for
