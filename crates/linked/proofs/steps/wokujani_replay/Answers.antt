@@ -1,4 +1,4 @@
-use lib.ListN.{length, set}
+use lib.ListN.{length}
 use Rattle.linked.specs.Laws.{numbers_there, still_there, place_there, replay_no, replay_refused, replay_done}
 use native.Mathlib.Omega.{arith}
 use mathlib.Core.Path.{sym, ◌∙◌}
@@ -19,9 +19,7 @@ bounds-state-14 c = omega (arith, numbers_there _ (length c.args.state.now) c.as
 
 pub bounds-state-15 : goal.bounds-state-15
 bounds-state-15 c =
-    let xs = c.args.state.now in
-    let e = c.replay-r.result.machine.ready.entries in
-    place_there (set xs 14 e.taken.entries) 15 (still_there xs 14 e.taken.entries (numbers_there _ (length c.args.state.now) c.ask_numbers-p.ensures c.if-p-ne0.false)) (omega arith)
+    place_there _ 15 (still_there c.args.state.now 14 _ (numbers_there _ (length c.args.state.now) c.ask_numbers-p.ensures c.if-p-ne0.false)) (omega arith)
 
 pub returns-in-Refused : goal.returns-in-Refused
 returns-in-Refused c =
