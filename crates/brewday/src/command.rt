@@ -1,58 +1,48 @@
 // A line as a step of the store.
 use calls::Step;
-use superblock::MaybeId;
-use words::{Parsed, Word};
+use words::Word;
 
-#[derive(Clone, Copy)]
-pub enum Command {
-    Is(Step),
-    Not,
-}
-
-fn with_id(input: &[u8], w: Word, id: u64) -> Command {
+fn with_id(input: &[u8], w: Word, id: u64) -> Option<Step> {
     if words::is(input, w, b"wj") {
-        return Command::Is(Step::WriteBackJournalReq {
-            id1: id,
-            id2: MaybeId::NoId,
-        });
+        return Some(Step::WriteBackJournalReq { id1: id, id2: None });
     }
     if words::is(input, w, b"aj") {
-        return Command::Is(Step::WriteBackJournalResp { id });
+        return Some(Step::WriteBackJournalResp { id });
     }
     if words::is(input, w, b"cl") {
-        return Command::Is(Step::AdvanceLog { id });
+        return Some(Step::AdvanceLog { id });
     }
     if words::is(input, w, b"land") {
-        return Command::Is(Step::Land { which: id });
+        return Some(Step::Land { which: id });
     }
-    Command::Not
+    None
 }
 
-fn with_slot(input: &[u8], w: Word, which: u64, id: u64) -> Command {
+fn with_slot(input: &[u8], w: Word, which: u64, id: u64) -> Option<Step> {
     if words::is(input, w, b"rs") {
-        return Command::Is(Step::PageInSuperblockReq { which, id });
+        return Some(Step::PageInSuperblockReq { which, id });
     }
     if words::is(input, w, b"as") {
-        return Command::Is(Step::PageInSuperblockResp {
+        return Some(Step::PageInSuperblockResp {
             which,
             id,
             whole: true,
         });
     }
-    Command::Not
+    None
 }
 
-fn alone(input: &[u8], w: Word) -> Command {
+fn alone(input: &[u8], w: Word) -> Option<Step> {
     if words::is(input, w, b"f1") {
-        return Command::Is(Step::FinishLoadingSuperblockPhase);
+        return Some(Step::FinishLoadingSuperblockPhase);
     }
     if words::is(input, w, b"f2") {
-        return Command::Is(Step::FinishLoadingOtherPhase);
+        return Some(Step::FinishLoadingOtherPhase);
     }
     if words::is(input, w, b"crash") {
-        return Command::Is(Step::CrashInPlace);
+        return Some(Step::CrashInPlace);
     }
-    Command::Not
+    None
 }
 
 fn put(sizes: &mut [u16], k: u16) {
@@ -62,16 +52,13 @@ fn put(sizes: &mut [u16], k: u16) {
 }
 
 // The entry of an add: its bytes to `brought`, its length to `sizes`.
-fn entry(input: &[u8], hex: Word, brought: &mut [u8], sizes: &mut [u16]) -> Command {
-    let n = words::hex(input, hex, brought, 0);
-    let Parsed::Is(k) = n else {
-        return Command::Not;
-    };
+fn entry(input: &[u8], hex: Word, brought: &mut [u8], sizes: &mut [u16]) -> Option<Step> {
+    let k = words::hex(input, hex, brought, 0)?;
     if 255 < k {
-        return Command::Not;
+        return None;
     }
     put(sizes, k as u16);
-    Command::Is(Step::Advance { entries: 1 })
+    Some(Step::Advance { entries: 1 })
 }
 
 fn two_words(
@@ -80,26 +67,17 @@ fn two_words(
     second: Word,
     brought: &mut [u8],
     sizes: &mut [u16],
-) -> Command {
+) -> Option<Step> {
     if words::is(input, w, b"add") {
         return entry(input, second, brought, sizes);
     }
-    let n = words::decimal(input, second);
-    let Parsed::Is(id) = n else {
-        return Command::Not;
-    };
+    let id = words::decimal(input, second)?;
     with_id(input, w, id)
 }
 
-fn three_words(input: &[u8], w: Word, second: Word, third: Word) -> Command {
-    let s = words::decimal(input, second);
-    let Parsed::Is(which) = s else {
-        return Command::Not;
-    };
-    let n = words::decimal(input, third);
-    let Parsed::Is(id) = n else {
-        return Command::Not;
-    };
+fn three_words(input: &[u8], w: Word, second: Word, third: Word) -> Option<Step> {
+    let which = words::decimal(input, second)?;
+    let id = words::decimal(input, third)?;
     with_slot(input, w, which, id)
 }
 
@@ -116,7 +94,7 @@ pub(crate) fn parse(
     end: usize,
     brought: &mut [u8],
     sizes: &mut [u16],
-) -> Command {
+) -> Option<Step> {
     let first = word_from(input, from, end);
     if end <= first.to {
         return alone(input, first);

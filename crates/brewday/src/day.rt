@@ -1,6 +1,7 @@
 // One line of the day: its command, the step, its row.
-use super::command::Command;
+use super::lent::Memory;
 use super::{command, row};
+use calls::Step;
 use layout::Geometry;
 use store::Store;
 
@@ -19,38 +20,17 @@ fn geometry() -> Geometry {
     }
 }
 
-// The number after this one; the largest stays.
-fn after(row: u64) -> u64 {
-    if row == 18446744073709551615 {
-        return row;
-    }
-    row + 1
-}
-
-fn place_after(end: usize) -> usize {
-    if end == 18446744073709551615 {
-        return end;
-    }
-    end + 1
-}
-
 // What a line comes to: its row, and the store after it. A line that isn't a command says so and alters nothing.
 fn play(
     rt: &impl Print,
     s: Store,
     n: u64,
-    c: Command,
+    c: Option<Step>,
     brought: &[u8],
     sizes: &[u16],
-    bytes: &mut [u8],
-    lens: &mut [u16],
-    pieces: &mut [u8],
-    rbytes: &mut [u8],
-    rlens: &mut [u16],
-    blocks: &mut [u8],
-    marks: &mut [u8],
+    memory: &mut Memory,
 ) -> Store {
-    let Command::Is(x) = c else {
+    let Some(x) = c else {
         row::not_a_command(rt, n);
         return s;
     };
@@ -63,50 +43,34 @@ fn play(
         sizes,
         &none,
         &none,
-        bytes,
-        lens,
-        pieces,
-        rbytes,
-        rlens,
-        blocks,
-        marks,
+        &mut memory.bytes,
+        &mut memory.lens,
+        &mut memory.pieces,
+        &mut memory.rbytes,
+        &mut memory.rlens,
+        &mut memory.blocks,
+        &mut memory.marks,
     );
     let next = r.store;
-    let a = r.answer;
-    let m = next.machine;
-    row::print(rt, n, a, m);
+    row::print(rt, n, r.answer, next.machine);
     next
 }
 
-pub(crate) fn turn(
-    rt: &impl Print,
-    d: Day,
-    input: &[u8],
-    bytes: &mut [u8],
-    lens: &mut [u16],
-    pieces: &mut [u8],
-    rbytes: &mut [u8],
-    rlens: &mut [u16],
-    blocks: &mut [u8],
-    marks: &mut [u8],
-) -> Day {
+// The next line, where there is one.
+pub(crate) fn turn(rt: &impl Print, d: Day, input: &[u8], memory: &mut Memory) -> Day {
     let from = d.at;
-    let s = d.store;
     if input.len() <= from {
         return d;
     }
     let end = words::next(input, from, input.len(), 10);
-    let n = after(d.row);
-    let at = place_after(end);
+    let n = d.row.saturating_add(1);
     let mut brought = [0u8; 256];
     let mut sizes = [0u16; 1];
     let c = command::parse(input, from, end, &mut brought, &mut sizes);
-    let next = play(
-        rt, s, n, c, &brought, &sizes, bytes, lens, pieces, rbytes, rlens, blocks, marks,
-    );
+    let store = play(rt, d.store, n, c, &brought, &sizes, memory);
     Day {
-        store: next,
-        at: at,
+        store,
+        at: end.saturating_add(1),
         row: n,
     }
 }

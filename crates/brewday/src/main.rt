@@ -4,17 +4,17 @@
 
 mod command;
 mod day;
+mod lent;
 mod row;
-
-ghost use Rattle.std.specs.Prelude.{◌≡◌, ◌-◌, ◌<◌};
 
 use day::Day;
 use layout::Location;
+use lent::Memory;
 use requests::Slots;
 use std::io::Read;
 use store::Store;
 use streams::read_full;
-use superblock::{MaybeSuperblock, Superblock};
+use superblock::Superblock;
 
 // Both slots: counter 0, an empty journal from block 0, table 1 with length 4,096.
 fn first_store() -> Store {
@@ -29,39 +29,16 @@ fn first_store() -> Store {
         indirectionTableLoc: loc,
     };
     let slots = Slots {
-        first: MaybeSuperblock::Holds(s),
-        second: MaybeSuperblock::Holds(s),
+        first: Some(s),
+        second: Some(s),
     };
     Store::initial(slots)
 }
 
-// One turn is over. It is a function, since arithmetic beside all lent slices is dear to check.
-fn one_less(turns: usize) -> usize
-    requires { 0 < turns }
-    ensures { result ≡ turns - 1 }
-{
-    turns - 1
-}
-
 // Each turn takes one line; there are no more lines than bytes.
-fn run(
-    rt: &impl Print,
-    mut d: Day,
-    input: &[u8],
-    bytes: &mut [u8],
-    lens: &mut [u16],
-    pieces: &mut [u8],
-    rbytes: &mut [u8],
-    rlens: &mut [u16],
-    blocks: &mut [u8],
-    marks: &mut [u8],
-) {
-    let mut turns = input.len();
-    while 0 < turns {
-        d = day::turn(
-            rt, d, input, bytes, lens, pieces, rbytes, rlens, blocks, marks,
-        );
-        turns = one_less(turns);
+fn run(rt: &impl Print, mut d: Day, input: &[u8], memory: &mut Memory) {
+    for _ in 0..input.len() {
+        d = day::turn(rt, d, input, memory);
     }
 }
 
@@ -77,13 +54,7 @@ fn is_longer(stdin: &mut impl Read, read: usize) -> bool {
 
 fn main(rt: HostRuntime) {
     let mut input = [0u8; 65536];
-    let mut bytes = [0u8; 65536];
-    let mut lens = [0u16; 1024];
-    let mut pieces = [0u8; 32768];
-    let mut rbytes = [0u8; 32768];
-    let mut rlens = [0u16; 32768];
-    let mut blocks = [0u8; 32768];
-    let mut marks = [0u8; 8];
+    let mut memory = Memory::zeros();
     let n = read_full(&mut rt.stdin(), &mut input);
     let more = is_longer(&mut rt.stdin(), n);
     if more {
@@ -91,22 +62,10 @@ fn main(rt: HostRuntime) {
         return;
     }
     let _ = println!(rt; "n r k c s l w");
-    let s = first_store();
     let d = Day {
-        store: s,
+        store: first_store(),
         at: 0,
         row: 0,
     };
-    run(
-        &rt,
-        d,
-        &input[..n],
-        &mut bytes,
-        &mut lens,
-        &mut pieces,
-        &mut rbytes,
-        &mut rlens,
-        &mut blocks,
-        &mut marks,
-    );
+    run(&rt, d, &input[..n], &mut memory);
 }

@@ -1,14 +1,7 @@
 // A row of output: line, refusal or 0, kind, counter, start, len, written; a dash where the kind lacks it.
 use machine::{Kind, Machine};
-use store::StoreAnswer;
-use superblock::Superblock;
-
-fn refusal(a: StoreAnswer) -> u64 {
-    match a {
-        StoreAnswer::Next(_) => 0,
-        StoreAnswer::Refused(q) => q as u64,
-    }
-}
+use refusal::{Refusal, number_of};
+use superblock::{DiskOp, Superblock};
 
 fn column(rt: &impl Print, n: u64) {
     let _ = print!(rt; " {n}");
@@ -42,9 +35,9 @@ fn state(rt: &impl Print, m: Machine) {
     }
 }
 
-pub(crate) fn print(rt: &impl Print, row: u64, a: StoreAnswer, m: Machine) {
+pub(crate) fn print(rt: &impl Print, row: u64, a: Result<DiskOp, Refusal>, m: Machine) {
     let _ = print!(rt; "{row}");
-    column(rt, refusal(a));
+    column(rt, number_of(&a) as u64);
     state(rt, m);
 }
 

@@ -1,11 +1,10 @@
 // A step of the store with its arguments: machine steps in the order of 000's Step, ask again, landings, crashes.
 use layout::Location;
-use superblock::MaybeId;
 
 // A call with its arguments. Entries are lent beside it, and so is the picture of a crash; a read's answer says whether it is whole.
 #[derive(Clone, Copy)]
 pub enum Step {
-    WriteBackJournalReq { id1: u64, id2: MaybeId },
+    WriteBackJournalReq { id1: u64, id2: Option<u64> },
     WriteBackJournalResp { id: u64 },
     AdvanceLog { id: u64 },
     AdvanceLocation { id: u64 },

@@ -1,50 +1,51 @@
 // One step over all calls. Questions 1 and 2 are asked once.
 ghost use Rattle.std.specs.Prelude.{◌≡◌};
-ghost use Rattle.store.specs.Lent.{lent};
+ghost use Rattle.laws.specs.Choice.{and_then};
+ghost use Rattle.refusal.specs.Refusal.{ok_unless, asked};
+ghost use Rattle.machine.specs.Questions.{bodies_of};
+ghost use Rattle.store.specs.Lent.{lent, ask_store};
 ghost use Rattle.calls.specs.Given.{given};
 ghost use Rattle.calls.specs.Step.{ask_picture, step_answer_with, step_lent_with, stepped, stepped_lent};
 
 use super::calls::Step;
 use layout::Geometry;
-use machine::Asked;
 use ready::Bodies;
+use refusal::Refusal;
 use store::{Store, StoreStepped};
 
 // Question 1 of a crash's picture.
-fn ask_picture(g: Geometry, x: Step, picture: &[u8], pictured: &[u8]) -> u8
-    ensures { result ≡ ask_picture g picture.now pictured.now x }
+fn ask_picture(g: Geometry, x: Step, picture: &[u8], pictured: &[u8]) -> Result<(), Refusal>
+    ensures { result ≡ asked (ask_picture g picture.now pictured.now x) }
 {
     match x {
-        Step::WriteBackJournalReq { id1: _, id2: _ } => 0,
-        Step::WriteBackJournalResp { id: _ } => 0,
-        Step::AdvanceLog { id: _ } => 0,
-        Step::AdvanceLocation { id: _ } => 0,
-        Step::WriteBackSuperblockResp { id: _ } => 0,
-        Step::PageInJournalReq { which: _, id: _ } => 0,
-        Step::PageInJournalResp { id: _, whole: _ } => 0,
-        Step::PageInSuperblockReq { which: _, id: _ } => 0,
-        Step::PageInSuperblockResp {
-            which: _,
-            id: _,
-            whole: _,
-        } => 0,
-        Step::FinishLoadingSuperblockPhase => 0,
-        Step::FinishLoadingOtherPhase => 0,
-        Step::Freeze => 0,
-        Step::ReceiveFrozenLoc { loc: _ } => 0,
-        Step::Advance { entries: _ } => 0,
-        Step::Replay { entries: _ } => 0,
-        Step::PushSyncReq { id: _ } => 0,
-        Step::PopSyncReq { id: _ } => 0,
-        Step::NoOp => 0,
-        Step::AskAgain { which: _ } => 0,
-        Step::Land { which: _ } => 0,
         Step::Crash => journal::ask_journal(g, picture, pictured),
-        Step::CrashInPlace => 0,
+        _ => Ok(()),
     }
 }
 
+// Question 1 of a crash's picture, then questions 1 and 2, and what was found in pending memory.
+fn ask(
+    s: Store,
+    g: Geometry,
+    x: Step,
+    picture: &[u8],
+    pictured: &[u8],
+    bytes: &[u8],
+    lens: &[u16],
+    pieces: &[u8],
+    rbytes: &[u8],
+    rlens: &[u16],
+    blocks: &[u8],
+    marks: &[u8],
+) -> Result<Bodies, Refusal>
+    ensures { result ≡ ok_unless (and_then (ask_picture g picture.now pictured.now x) (ask_store g (lent bytes.now lens.now pieces.now rbytes.now rlens.now blocks.now marks.now) s)) (bodies_of lens.now s.machine) }
+{
+    ask_picture(g, x, picture, pictured)?;
+    s.ask(g, bytes, lens, pieces, rbytes, rlens, blocks, marks)
+}
+
 // The step, after questions 1 and 2; no step by itself.
+#[tactic(auto, unfolding(crate::specs::Step::step_answer_with, crate::specs::Step::step_lent_with))]
 fn step_asked(
     s: Store,
     g: Geometry,
@@ -133,14 +134,11 @@ pub fn step(
     ensures blocks_after { blocks.new ≡ (stepped_lent g (lent bytes.old lens.old pieces.old rbytes.old rlens.old blocks.old marks.old) (given brought.now sizes.now picture.now pictured.now) s x).blocks }
     ensures marks_after { marks.new ≡ (stepped_lent g (lent bytes.old lens.old pieces.old rbytes.old rlens.old blocks.old marks.old) (given brought.now sizes.now picture.now pictured.now) s x).marks }
 {
-    let q = ask_picture(g, x, picture, pictured);
-    if q != 0 {
-        return s.refused(q);
-    }
-    let a = s.ask(g, bytes, lens, pieces, rbytes, rlens, blocks, marks);
-    match a {
-        Asked::Refused(p) => s.refused(p),
-        Asked::Held(bodies) => step_asked(
+    match ask(
+        s, g, x, picture, pictured, bytes, lens, pieces, rbytes, rlens, blocks, marks,
+    ) {
+        Err(no) => s.refused(no),
+        Ok(bodies) => step_asked(
             s, g, x, bodies, brought, sizes, picture, pictured, bytes, lens, pieces, rbytes, rlens,
             blocks, marks,
         ),

@@ -4,8 +4,7 @@ use Rattle.laws.specs.Choice.{and_then, unless}
 use Rattle.layout.specs.declared.Geometry.{Geometry}
 use Rattle.journal.specs.Memory.{ask_journal}
 use Rattle.disk.specs.declared.Disk.{Disk}
-use Rattle.disk.specs.declared.DiskStepped.{DiskStepped}
-use Rattle.disk.specs.Disk.{idle_disk, answered}
+use Rattle.disk.specs.Disk.{DiskStepped, idle_disk, answered}
 use Rattle.disk.specs.Questions.{ask_state}
 use Rattle.crash.specs.Picture.{crashed_blocks, crashed_marks}
 

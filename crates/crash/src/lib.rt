@@ -5,7 +5,7 @@
 //   no_requests      the disk that a crash leaves
 //   crash_memory     what it does to blocks and marks; asks nothing, for a step that has asked
 // Every function is total. A refusal hands the disk back and alters no lent byte.
-#![tactic(auto)]
+#![tactic(auto, using(refusal::specs::Refusal::questions, laws::specs::Choice::tests), unfolding(laws::specs::Choice::and_then, laws::specs::Choice::unless, disk::specs::Disk::answered_with, crate::specs::Whole::ask_crash))]
 
 mod memory;
 mod whole;

@@ -19,14 +19,11 @@ pub fn crash_memory(
     ensures blocks_after { blocks.new ≡ crashed_blocks writes picture.now blocks.old }
     ensures marks_after { marks.new ≡ crashed_marks writes pictured.now marks.old }
 {
-    let rows = writes.intervals;
-    let n = runs::lesser(writes.count, SIZE);
-    let mut i = 0;
-    while i < n {
-        let v = rows[i];
+    let n = writes.count.min(SIZE);
+    let rows = &writes.intervals[..n];
+    for v in rows {
         journal::copy_blocks(picture, v.start, v.len, blocks, v.start);
         let at = v.start as usize;
-        runs::copy_bytes(pictured, at, v.len as usize, marks, at);
-        i += 1;
+        runs::copy(pictured, at, v.len as usize, marks, at);
     }
 }

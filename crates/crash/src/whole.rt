@@ -1,10 +1,12 @@
 // The crash whole: questions 1 and 2, then the lent memory. There is no argument that another question could ask.
 ghost use Rattle.std.specs.Prelude.{◌≡◌};
+ghost use Rattle.refusal.specs.Refusal.{asked};
 ghost use Rattle.crash.specs.Whole.{crashed_disk, ask_crash, crash, crash_blocks, crash_marks};
 
 use super::memory::crash_memory;
-use disk::{Disk, DiskAnswer, DiskStepped};
+use disk::{Disk, DiskStepped};
 use layout::Geometry;
+use refusal::Refusal;
 
 // The disk that a crash leaves: its slots, and no request.
 pub fn no_requests(d: Disk) -> Disk
@@ -22,17 +24,11 @@ fn ask_crash(
     pictured: &[u8],
     blocks: &[u8],
     marks: &[u8],
-) -> u8
-    ensures { result ≡ ask_crash g d picture.now pictured.now blocks.now marks.now }
+) -> Result<(), Refusal>
+    ensures { result ≡ asked (ask_crash g d picture.now pictured.now blocks.now marks.now) }
 {
-    let q = journal::ask_journal(g, blocks, marks);
-    if q != 0 {
-        return q;
-    }
-    let p = journal::ask_journal(g, picture, pictured);
-    if p != 0 {
-        return p;
-    }
+    journal::ask_journal(g, blocks, marks)?;
+    journal::ask_journal(g, picture, pictured)?;
     d.ask_state(g)
 }
 
@@ -49,30 +45,29 @@ pub fn crash(
     ensures blocks_after { blocks.new ≡ crash_blocks g d picture.now pictured.now blocks.old marks.old }
     ensures marks_after { marks.new ≡ crash_marks g d picture.now pictured.now blocks.old marks.old }
 {
-    let q = ask_crash(d, g, picture, pictured, blocks, marks);
-    if q != 0 {
-        return d.refused(q);
+    if let Err(no) = ask_crash(d, g, picture, pictured, blocks, marks) {
+        return d.refused(no);
     }
     let writes = d.journalWrites;
     crash_memory(writes, picture, pictured, blocks, marks);
     let crashed = no_requests(d);
     DiskStepped {
-        answer: DiskAnswer::Done,
+        answer: Ok(()),
         disk: crashed,
     }
 }
 
 // The crash whose picture is the disk's own blocks and marks: they can't be lent twice, and none of them changes.
+#[tactic(auto, using(refusal::specs::Refusal::questions, laws::specs::Choice::tests, crate::specs::Laws::Whole::own_asks), unfolding(disk::specs::Disk::answered_with))]
 pub fn crash_in_place(d: Disk, g: Geometry, blocks: &[u8], marks: &[u8]) -> DiskStepped
     ensures { result ≡ crash g d blocks.now marks.now blocks.now marks.now }
 {
-    let q = d.ask(g, blocks, marks);
-    if q != 0 {
-        return d.refused(q);
+    if let Err(no) = d.ask(g, blocks, marks) {
+        return d.refused(no);
     }
     let next = no_requests(d);
     DiskStepped {
-        answer: DiskAnswer::Done,
+        answer: Ok(()),
         disk: next,
     }
 }

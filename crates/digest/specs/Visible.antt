@@ -1,20 +1,18 @@
 -- The visible content of a store, as bytes in the order in which the check number takes them: the two slots, the journal's marks and the blocks
 -- whose mark is 1, then what the machine's kind holds in lent memory.
+use Rattle.std.specs.Prelude.{None, Some}
+use Rattle.std.specs.declared.option.Option as code
 use Rattle.std.specs.Prelude.{ℕ, ◌*◌, cond, List, [], ◌∷◌, ◌++◌, eqb, length, take, drop}
 use Rattle.laws.specs.LowFirst.{low_first, each_low}
 use Rattle.layout.specs.declared.Geometry.{Geometry}
 use Rattle.superblock.specs.declared.Superblock.{Superblock}
-use Rattle.superblock.specs.declared.MaybeSuperblock.{MaybeSuperblock}
-use Rattle.superblock.specs.declared.MaybeSuperblock.TheVariants as slot
-use Rattle.requests.specs.declared.Slots.{Slots}
+use Rattle.requests.specs.Slots.{Slots}
 use Rattle.loading.specs.declared.Piece.{Piece}
 use Rattle.loading.specs.declared.Piece.TheVariants as piece
 use Rattle.loading.specs.declared.LoadingOther.{LoadingOther}
 use Rattle.loading.specs.Other.{front_blocks, back_blocks}
-use Rattle.lengths.specs.declared.Held.{Held}
-use Rattle.lengths.specs.declared.Held.TheVariants as held
 use Rattle.lengths.specs.Entries.{part, entries_held}
-use Rattle.memory.specs.declared.Count.{Count}
+use Rattle.range.specs.declared.Count.{Count}
 use Rattle.ready.specs.declared.Entries.{Entries}
 use Rattle.machine.specs.declared.Kind.{Kind}
 use Rattle.machine.specs.declared.Kind.TheVariants as kind
@@ -30,9 +28,9 @@ superblock_bytes s =
     ++ low_first 8 s.indirectionTableLoc.addr
     ++ low_first 8 s.indirectionTableLoc.len
 
-unfoldable pub slot_bytes : MaybeSuperblock → List ℕ
-slot_bytes (slot.Holds s) = superblock_bytes s
-slot_bytes slot.Empty = []
+unfoldable pub slot_bytes : code.Option Superblock → List ℕ
+slot_bytes (Some s) = superblock_bytes s
+slot_bytes None = []
 
 unfoldable pub slots_bytes : Slots → List ℕ
 slots_bytes s = slot_bytes s.first ++ slot_bytes s.second
@@ -59,9 +57,9 @@ loaded_bytes g s pieces =
     ++ piece_bytes s.back pieces (front_blocks g s.superblock) (back_blocks g s.superblock)
 
 -- the entries behind those that are taken, up to one: their lengths, then their bytes; nothing where they aren't held
-unfoldable pub held_as : Held → List ℕ → List ℕ → List ℕ
-held_as (held.Bytes n) lens bytes = each_low 2 lens ++ take n bytes
-held_as held.Nothing lens bytes = []
+unfoldable pub held_as : code.Option ℕ → List ℕ → List ℕ → List ℕ
+held_as (Some n) lens bytes = each_low 2 lens ++ take n bytes
+held_as None lens bytes = []
 
 unfoldable pub held_bytes : List ℕ → List ℕ → Count → ℕ → List ℕ
 held_bytes bytes lens taken to = held_as (entries_held (length bytes) lens taken.entries to) (part taken.entries to lens) (drop taken.bytes bytes)

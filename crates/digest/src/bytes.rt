@@ -1,76 +1,105 @@
 // Bytes taken into the check number, one after another.
-ghost use Rattle.std.specs.Prelude.{◌≡◌, ◌-◌, ◌%◌, ◌<◌, length, take, drop};
+ghost use Rattle.std.specs.Prelude.{◌≡◌, ◌*◌, ◌<◌, ◌≤◌, length, take, drop};
+ghost use Rattle.laws.specs.LowFirst.{low_first, each_low};
 ghost use Rattle.digest.specs.Take.{take_byte, takes};
-
-use runs::lesser;
 
 const MODULUS: u64 = 4294967291;
 
-fn wide(b: u8) -> u64
-    ensures { (result ≡ b) × (result < 256) }
-{
-    b as u64
+// The check number of the bytes taken so far: a remainder by the modulus, so that it leaves room for three more bytes in 64 bits.
+#[derive(Clone, Copy)]
+pub(crate) struct Taken {
+    pub(crate) number: u64,
+    ghost small: { number < 4294967291 },
 }
 
-pub(crate) fn take_byte(h: u64, b: u8) -> u64
-    requires { h < 4294967291 }
-    ensures { (result ≡ take_byte h b) × (result < 4294967291) }
-{
-    (h * 257 + wide(b) + 1) % MODULUS
-}
-
-// Three bytes with one remainder: before it they stay below 64 bits. 257³ is 16,974,593.
-fn take_three(h: u64, a: u8, b: u8, c: u8) -> u64
-    requires { h < 4294967291 }
-    ensures { (result ≡ take_byte (take_byte (take_byte h a) b) c) × (result < 4294967291) }
-{
-    let low = (wide(a) + 1) * 66049 + (wide(b) + 1) * 257 + wide(c) + 1;
-    (h * 16974593 + low) % MODULUS
-}
-
-// As many threes as there are.
-fn take_threes(h: u64, s: &[u8]) -> u64
-    requires { h < 4294967291 }
-    ensures { (takes result (drop (length s.now - length s.now % 3) s.now) ≡ takes h s.now) × (result < 4294967291) }
-{
-    let end = s.len() - s.len() % 3;
-    let mut v = h;
-    let mut i = 0;
-    while i < end {
-        v = take_three(v, s[i], s[i + 1], s[i + 2]);
-        i += 3;
+impl Taken {
+    // No byte is taken yet.
+    pub(crate) fn none() -> Taken
+        ensures { result.number ≡ 0 }
+    {
+        Taken { number: 0 }
     }
-    v
-}
 
-// The bytes from a place on.
-fn take_from(h: u64, s: &[u8], from: usize) -> u64
-    requires { h < 4294967291 }
-    ensures { (result ≡ takes h (drop from s.now)) × (result < 4294967291) }
-{
-    let mut v = h;
-    let mut i = from;
-    while i < s.len() {
-        v = take_byte(v, s[i]);
-        i += 1;
+    pub(crate) fn byte(self, b: u8) -> Taken
+        ensures { result.number ≡ take_byte self.number b }
+    {
+        Taken {
+            number: (self.number * 257 + u64::from(b) + 1) % MODULUS,
+        }
     }
-    v
-}
 
-pub(crate) fn take_bytes(h: u64, s: &[u8]) -> u64
-    requires { h < 4294967291 }
-    ensures { (result ≡ takes h s.now) × (result < 4294967291) }
-{
-    let v = take_threes(h, s);
-    take_from(v, s, s.len() - s.len() % 3)
-}
+    // Three bytes with one remainder: before it they stay below 64 bits. 257³ is 16,974,593.
+    fn three(self, a: u8, b: u8, c: u8) -> Taken
+        ensures { result.number ≡ take_byte (take_byte (take_byte self.number a) b) c }
+    {
+        let low = (u64::from(a) + 1) * 66049 + (u64::from(b) + 1) * 257 + u64::from(c) + 1;
+        Taken {
+            number: (self.number * 16974593 + low) % MODULUS,
+        }
+    }
 
-// So many bytes from a place on, or as many of them as there are.
-pub(crate) fn take_part(h: u64, s: &[u8], from: usize, count: usize) -> u64
-    requires { h < 4294967291 }
-    ensures { (result ≡ takes h (take count (drop from s.now))) × (result < 4294967291) }
-{
-    let start = lesser(from, s.len());
-    let size = lesser(count, s.len() - start);
-    take_bytes(h, &s[start..start + size])
+    // The first n threes.
+    fn threes(self, s: &[u8], n: usize) -> Taken
+        requires { 3 * n ≤ length s.now }
+        ensures { takes result.number (drop (3 * n) s.now) ≡ takes self.number s.now }
+    {
+        let mut v = self;
+        for i in 0..n {
+            v = v.three(s[3 * i], s[3 * i + 1], s[3 * i + 2]);
+        }
+        v
+    }
+
+    // One by one.
+    fn singles(self, s: &[u8]) -> Taken
+        ensures { result.number ≡ takes self.number s.now }
+    {
+        let mut v = self;
+        for b in s {
+            v = v.byte(*b);
+        }
+        v
+    }
+
+    // As many threes as there are, then the bytes that are left.
+    pub(crate) fn bytes(self, s: &[u8]) -> Taken
+        ensures { result.number ≡ takes self.number s.now }
+    {
+        let n = s.len() / 3;
+        let v = self.threes(s, n);
+        v.singles(&s[3 * n..])
+    }
+
+    // So many bytes from a place on, or as many of them as there are.
+    pub(crate) fn part(self, s: &[u8], from: usize, count: usize) -> Taken
+        ensures { result.number ≡ takes self.number (take count (drop from s.now)) }
+    {
+        let start = from.min(s.len());
+        let size = count.min(s.len() - start);
+        self.bytes(&s[start..start + size])
+    }
+
+    // A number as eight bytes, the low byte first.
+    pub(crate) fn number(self, n: u64) -> Taken
+        ensures { result.number ≡ takes self.number (low_first 8 n) }
+    {
+        self.singles(&n.to_le_bytes())
+    }
+
+    // A length as two.
+    fn length(self, len: u16) -> Taken
+        ensures { result.number ≡ takes self.number (low_first 2 len) }
+    {
+        self.singles(&len.to_le_bytes())
+    }
+
+    pub(crate) fn lengths(self, lens: &[u16]) -> Taken
+        ensures { result.number ≡ takes self.number (each_low 2 lens.now) }
+    {
+        let mut v = self;
+        for n in lens {
+            v = v.length(*n);
+        }
+        v
+    }
 }

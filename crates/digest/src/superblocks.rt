@@ -1,40 +1,37 @@
 // The two slots: each superblock as its five numbers.
-ghost use Rattle.std.specs.Prelude.{◌≡◌, ◌<◌};
+ghost use Rattle.std.specs.Prelude.{◌≡◌};
 ghost use Rattle.digest.specs.Take.{takes};
 ghost use Rattle.digest.specs.Visible.{superblock_bytes, slot_bytes, slots_bytes};
 
-use super::digits::take_number;
+use super::bytes::Taken;
 use requests::Slots;
-use superblock::{MaybeSuperblock, Superblock};
+use superblock::Superblock;
 
-fn take_superblock(h: u64, s: Superblock) -> u64
-    requires { h < 4294967291 }
-    ensures { (result ≡ takes h (superblock_bytes s)) × (result < 4294967291) }
-{
-    let loc = s.indirectionTableLoc;
-    let a = take_number(h, s.counter);
-    let b = take_number(a, s.journalStart);
-    let c = take_number(b, s.journalLen);
-    let d = take_number(c, loc.addr);
-    take_number(d, loc.len)
-}
-
-fn take_slot(h: u64, s: MaybeSuperblock) -> u64
-    requires { h < 4294967291 }
-    ensures { (result ≡ takes h (slot_bytes s)) × (result < 4294967291) }
-{
-    match s {
-        MaybeSuperblock::Holds(held) => take_superblock(h, held),
-        MaybeSuperblock::Empty => h,
+impl Taken {
+    fn superblock(self, s: Superblock) -> Taken
+        ensures { result.number ≡ takes self.number (superblock_bytes s) }
+    {
+        let loc = s.indirectionTableLoc;
+        let a = self.number(s.counter);
+        let b = a.number(s.journalStart);
+        let c = b.number(s.journalLen);
+        let d = c.number(loc.addr);
+        d.number(loc.len)
     }
-}
 
-pub(crate) fn take_slots(h: u64, s: Slots) -> u64
-    requires { h < 4294967291 }
-    ensures { (result ≡ takes h (slots_bytes s)) × (result < 4294967291) }
-{
-    let first = s.first;
-    let second = s.second;
-    let a = take_slot(h, first);
-    take_slot(a, second)
+    fn slot(self, s: Option<Superblock>) -> Taken
+        ensures { result.number ≡ takes self.number (slot_bytes s) }
+    {
+        match s {
+            Some(held) => self.superblock(held),
+            None => self,
+        }
+    }
+
+    pub(crate) fn slots(self, s: Slots) -> Taken
+        ensures { result.number ≡ takes self.number (slots_bytes s) }
+    {
+        let a = self.slot(s.first);
+        a.slot(s.second)
+    }
 }

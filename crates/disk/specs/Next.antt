@@ -1,19 +1,13 @@
--- The disk after each operation, and what an answer with what was read says: one number decides.
-use Rattle.std.specs.Prelude.{ℕ, cond, eqb}
+-- The disk after each operation.
+use Rattle.std.specs.declared.option.Option as code
+use Rattle.std.specs.Prelude.{ℕ, None}
 use Rattle.layout.specs.declared.Geometry.{Geometry}
 use Rattle.interval.specs.declared.JournalInterval.{JournalInterval}
 use Rattle.superblock.specs.declared.Superblock.{Superblock}
-use Rattle.superblock.specs.declared.MaybeId.{MaybeId}
 use Rattle.tables.specs.IntervalTable.{added_interval}
-use Rattle.requests.specs.declared.SuperblockWrite.TheVariants as write
 use Rattle.disk.specs.declared.Disk.{Disk}
 use Rattle.disk.specs.Disk.{with_superblock_reads, with_superblock_writes, with_journal_reads, with_journal_writes, with_slots}
-use Rattle.requests.specs.Slots.{put_write}
-use Rattle.superblock.specs.declared.SuperblockRead.{SuperblockRead}
-use Rattle.disk.specs.declared.SuperblockAnswer.TheVariants as superblockAnswer
-use Rattle.disk.specs.declared.SuperblockAcked.{SuperblockAcked}
-use Rattle.disk.specs.declared.JournalAnswer.TheVariants as journalAnswer
-use Rattle.disk.specs.declared.JournalAcked.{JournalAcked}
+use Rattle.requests.specs.Slots.{put_slot, writing}
 use Rattle.requests.specs.Receive.{read_received, write_received}
 use Rattle.requests.specs.Acknowledge.{read_acked, interval_left}
 use Rattle.requests.specs.Landing.{slots_landed}
@@ -25,31 +19,19 @@ unfoldable pub recv_read_journal_next : Disk → ℕ → JournalInterval → Dis
 recv_read_journal_next d id v = with_journal_reads d (added_interval d.journalReads id v)
 
 unfoldable pub recv_write_superblock_next : Disk → ℕ → ℕ → Superblock → Disk
-recv_write_superblock_next d which id superblock = with_superblock_writes d (put_write d.superblockWrites which (write.Writing id superblock))
+recv_write_superblock_next d which id superblock = with_superblock_writes d (put_slot d.superblockWrites which (writing id superblock))
 
-unfoldable pub recv_write_journal_next : Geometry → Disk → ℕ → MaybeId → JournalInterval → Disk
+unfoldable pub recv_write_journal_next : Geometry → Disk → ℕ → code.Option ℕ → JournalInterval → Disk
 recv_write_journal_next g d id1 id2 v = with_journal_writes d (write_received g d.journalWrites id1 id2 v)
 
 unfoldable pub ack_read_superblock_next : Disk → ℕ → ℕ → Disk
 ack_read_superblock_next d which id = with_superblock_reads d (read_acked d.superblockReads which id)
 
-abbrev pub superblock_refused : Disk → ℕ → SuperblockAcked
-superblock_refused d q = record { answer = superblockAnswer.Refused q; disk = d }
-
-unfoldable pub superblock_answered : ℕ → SuperblockRead → Disk → Disk → SuperblockAcked
-superblock_answered q x next d = cond (eqb q 0) (record { answer = superblockAnswer.Read x; disk = next }) (superblock_refused d q)
-
 unfoldable pub ack_read_journal_next : Disk → ℕ → Disk
 ack_read_journal_next d id = with_journal_reads d (interval_left d.journalReads id)
 
-abbrev pub journal_refused : Disk → ℕ → JournalAcked
-journal_refused d q = record { answer = journalAnswer.Refused q; disk = d }
-
-unfoldable pub journal_answered : ℕ → JournalInterval → Disk → Disk → JournalAcked
-journal_answered q v next d = cond (eqb q 0) (record { answer = journalAnswer.Read v; disk = next }) (journal_refused d q)
-
 unfoldable pub ack_write_superblock_next : Disk → ℕ → Disk
-ack_write_superblock_next d which = with_superblock_writes d (put_write d.superblockWrites which write.NoWrite)
+ack_write_superblock_next d which = with_superblock_writes d (put_slot d.superblockWrites which None)
 
 unfoldable pub ack_write_journal_next : Disk → ℕ → Disk
 ack_write_journal_next d id = with_journal_writes d (interval_left d.journalWrites id)

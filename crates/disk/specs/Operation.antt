@@ -1,6 +1,8 @@
 -- One step over the whole disk operation type: what each operation asks, the disk after it, and the lent memory after it.
-use Rattle.std.specs.Prelude.{ℕ, Bool, true, false, List}
+use Rattle.std.specs.Prelude.{ℕ, ⊤, Bool, true, false, List, Result, Ok, Err}
+use Rattle.refusal.specs.declared.Refusal.{Refusal}
 use Rattle.layout.specs.declared.Geometry.{Geometry}
+use Rattle.interval.specs.declared.JournalInterval.{JournalInterval}
 use Rattle.interval.specs.Interval.{interval}
 use Rattle.superblock.specs.declared.DiskOp.{DiskOp}
 use Rattle.superblock.specs.declared.DiskOp.TheVariants as op
@@ -8,12 +10,7 @@ use Rattle.superblock.specs.declared.JournalRead.{JournalRead}
 use Rattle.superblock.specs.declared.JournalRead.TheVariants as read
 use Rattle.journal.specs.Memory.{update_bytes, update_marks}
 use Rattle.disk.specs.declared.Disk.{Disk}
-use Rattle.disk.specs.declared.DiskStepped.{DiskStepped}
-use Rattle.disk.specs.declared.DiskAnswer.{DiskAnswer}
-use Rattle.disk.specs.declared.DiskAnswer.TheVariants as answer
-use Rattle.disk.specs.declared.JournalAcked.{JournalAcked}
-use Rattle.disk.specs.declared.JournalAnswer.{JournalAnswer}
-use Rattle.disk.specs.declared.JournalAnswer.TheVariants as journalAnswer
+use Rattle.disk.specs.Disk.{DiskStepped, JournalAcked}
 use Rattle.disk.specs.declared.Touched.{Touched}
 use Rattle.disk.specs.declared.Touched.TheVariants as touched
 use Rattle.requests.specs.Receive.{ask_recv_read_superblock, ask_recv_read_journal, ask_recv_write_superblock, ask_recv_write_journal}
@@ -39,9 +36,9 @@ touched_by (op.RespWriteJournal id) = touched.Nothing
 touched_by op.NoDiskOp = touched.Nothing
 
 -- a journal read's answer as an operation's
-abbrev pub done_or : JournalAnswer → DiskAnswer
-done_or (journalAnswer.Read v) = answer.Done
-done_or (journalAnswer.Refused q) = answer.Refused q
+abbrev pub done_or : Result JournalInterval Refusal → Result ⊤ Refusal
+done_or (Ok v) = Ok record {}
+done_or (Err why) = Err why
 
 abbrev pub as_stepped : JournalAcked → DiskStepped
 as_stepped r = record { answer = done_or r.answer; disk = r.disk }

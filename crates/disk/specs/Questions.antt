@@ -7,7 +7,7 @@ use Rattle.journal.specs.Memory.{ask_blocks, ask_journal}
 use Rattle.tables.specs.declared.IntervalTable.{IntervalTable}
 use Rattle.tables.specs.Rows.{counted}
 use Rattle.tables.specs.IntervalTable.{valid_intervals}
-use Rattle.requests.specs.declared.SuperblockReads.{SuperblockReads}
+use Rattle.requests.specs.Slots.{SuperblockReads}
 use Rattle.disk.specs.declared.Disk.{Disk}
 use Rattle.requests.specs.Limits.{most_superblock_reads, most_journal_reads, most_journal_writes}
 

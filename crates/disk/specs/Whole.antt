@@ -1,24 +1,21 @@
 -- The disk's operations whole, as their promises cite them: what each call answers, and what it leaves in lent memory. Questions 1 and 2 come
 -- first, then the operation's own.
+use Rattle.std.specs.declared.option.Option as code
 use Rattle.std.specs.Prelude.{ℕ, Bool, List}
 use Rattle.laws.specs.Choice.{and_then, unless}
 use Rattle.layout.specs.declared.Geometry.{Geometry}
 use Rattle.interval.specs.declared.JournalInterval.{JournalInterval}
 use Rattle.superblock.specs.declared.Superblock.{Superblock}
-use Rattle.superblock.specs.declared.MaybeId.{MaybeId}
 use Rattle.superblock.specs.declared.DiskOp.{DiskOp}
 use Rattle.journal.specs.Memory.{update_bytes, update_marks}
 use Rattle.disk.specs.declared.Disk.{Disk}
-use Rattle.disk.specs.declared.DiskStepped.{DiskStepped}
-use Rattle.disk.specs.declared.SuperblockAcked.{SuperblockAcked}
-use Rattle.disk.specs.declared.JournalAcked.{JournalAcked}
 use Rattle.requests.specs.Slots.{slot_at}
-use Rattle.disk.specs.Disk.{answered}
+use Rattle.disk.specs.Disk.{DiskStepped, SuperblockAcked, JournalAcked, answered, answered_with}
 use Rattle.disk.specs.Questions.{ask_disk, ask_disk_out}
 use Rattle.requests.specs.Receive.{ask_recv_read_superblock, ask_recv_read_journal, ask_recv_write_superblock}
 use Rattle.disk.specs.Next.{recv_read_superblock_next, recv_read_journal_next, recv_write_superblock_next, recv_write_journal_next}
 use Rattle.requests.specs.Acknowledge.{read_from, ask_ack_read_superblock, held_interval, ask_ack_read_journal, ask_ack_write_superblock, ask_ack_write_journal}
-use Rattle.disk.specs.Next.{superblock_answered, journal_answered, ack_read_superblock_next, ack_read_journal_next, ack_write_superblock_next, ack_write_journal_next}
+use Rattle.disk.specs.Next.{ack_read_superblock_next, ack_read_journal_next, ack_write_superblock_next, ack_write_journal_next}
 use Rattle.requests.specs.Landing.{ask_land}
 use Rattle.disk.specs.Next.{land_next}
 use Rattle.disk.specs.Memory.{new_interval, ask_new_blocks, read_out}
@@ -46,28 +43,28 @@ recv_write_superblock g d which id superblock blocks marks =
     d
 
 -- a journal write: the answer, the blocks and the marks, by one number
-abbrev pub ask_write_journal : Geometry → Disk → ℕ → MaybeId → ℕ → List ℕ → List ℕ → List ℕ → ℕ
+abbrev pub ask_write_journal : Geometry → Disk → ℕ → code.Option ℕ → ℕ → List ℕ → List ℕ → List ℕ → ℕ
 ask_write_journal g d id1 id2 start new blocks marks =
     and_then (ask_disk g d blocks marks) (ask_new_blocks g d.journalWrites id1 id2 (new_interval start new) new)
 
-abbrev pub recv_write_journal : Geometry → Disk → ℕ → MaybeId → ℕ → List ℕ → List ℕ → List ℕ → DiskStepped
+abbrev pub recv_write_journal : Geometry → Disk → ℕ → code.Option ℕ → ℕ → List ℕ → List ℕ → List ℕ → DiskStepped
 recv_write_journal g d id1 id2 start new blocks marks =
     answered
     (ask_write_journal g d id1 id2 start new blocks marks)
     (recv_write_journal_next g d id1 id2 (new_interval start new))
     d
 
-abbrev pub recv_write_journal_blocks : Geometry → Disk → ℕ → MaybeId → ℕ → List ℕ → List ℕ → List ℕ → List ℕ
+abbrev pub recv_write_journal_blocks : Geometry → Disk → ℕ → code.Option ℕ → ℕ → List ℕ → List ℕ → List ℕ → List ℕ
 recv_write_journal_blocks g d id1 id2 start new blocks marks =
     unless (ask_write_journal g d id1 id2 start new blocks marks) blocks (update_bytes blocks (new_interval start new) new)
 
-abbrev pub recv_write_journal_marks : Geometry → Disk → ℕ → MaybeId → ℕ → List ℕ → List ℕ → List ℕ → List ℕ
+abbrev pub recv_write_journal_marks : Geometry → Disk → ℕ → code.Option ℕ → ℕ → List ℕ → List ℕ → List ℕ → List ℕ
 recv_write_journal_marks g d id1 id2 start new blocks marks =
     unless (ask_write_journal g d id1 id2 start new blocks marks) marks (update_marks marks (new_interval start new))
 
 abbrev pub ack_read_superblock : Geometry → Disk → ℕ → ℕ → Bool → List ℕ → List ℕ → SuperblockAcked
 ack_read_superblock g d which id whole blocks marks =
-    superblock_answered
+    answered_with
     (and_then (ask_disk g d blocks marks) (ask_ack_read_superblock d.slots d.superblockReads which id whole))
     (read_from whole (slot_at d.slots which))
     (ack_read_superblock_next d which id)
@@ -80,7 +77,7 @@ ask_read_journal g d id whole blocks marks out =
 
 abbrev pub ack_read_journal : Geometry → Disk → ℕ → Bool → List ℕ → List ℕ → List ℕ → JournalAcked
 ack_read_journal g d id whole blocks marks out =
-    journal_answered
+    answered_with
     (ask_read_journal g d id whole blocks marks out)
     (held_interval d.journalReads id)
     (ack_read_journal_next d id)

@@ -2,8 +2,9 @@
 ghost use Rattle.std.specs.Prelude.{◌≡◌};
 ghost use Rattle.disk.specs.Disk.{idle_disk, refused, done};
 
-use super::{Disk, DiskAnswer, DiskStepped};
-use requests::{Slots, SuperblockReads, SuperblockWrite, SuperblockWrites};
+use super::{Disk, Stepped};
+use refusal::Refusal;
+use requests::{Slots, SuperblockReads, SuperblockWrites};
 use tables::{IdTable, IntervalTable};
 
 impl Disk {
@@ -12,40 +13,38 @@ impl Disk {
         ensures { result ≡ idle_disk slots }
     {
         let ids = IdTable::empty();
-        let reads = SuperblockReads {
-            first: ids,
-            second: ids,
-        };
-        let writes = SuperblockWrites {
-            first: SuperblockWrite::NoWrite,
-            second: SuperblockWrite::NoWrite,
-        };
         let rows = IntervalTable::empty();
         Disk {
-            slots: slots,
-            superblockReads: reads,
-            superblockWrites: writes,
+            slots,
+            superblockReads: SuperblockReads {
+                first: ids,
+                second: ids,
+            },
+            superblockWrites: SuperblockWrites {
+                first: None,
+                second: None,
+            },
             journalReads: rows,
             journalWrites: rows,
         }
     }
 
-    // A no: the number of the question, and the disk as it was.
-    pub fn refused(self, q: u8) -> DiskStepped
-        ensures { result ≡ refused self q }
+    // A no, and the disk as it was.
+    pub fn refused<T>(self, no: Refusal) -> Stepped<T>
+        ensures { result ≡ refused self no }
     {
-        DiskStepped {
-            answer: DiskAnswer::Refused(q),
+        Stepped {
+            answer: Err(no),
             disk: self,
         }
     }
 
-    // A yes: this, the next disk.
-    pub(crate) fn done(self) -> DiskStepped
-        ensures { result ≡ done self }
+    // A yes, with what was asked for: this, the next disk.
+    pub(crate) fn done<T>(self, value: T) -> Stepped<T>
+        ensures { result ≡ done value self }
     {
-        DiskStepped {
-            answer: DiskAnswer::Done,
+        Stepped {
+            answer: Ok(value),
             disk: self,
         }
     }

@@ -14,12 +14,11 @@ impl Disk {
     {
         let slots = self.slots;
         let writes = self.superblockWrites;
-        let q = ask_land(writes, which);
-        if q != 0 {
-            return self.refused(q);
+        if let Err(no) = ask_land(writes, which) {
+            return self.refused(no);
         }
         let next = slots_landed(slots, writes, which);
         self.slots = next;
-        self.done()
+        self.done(())
     }
 }

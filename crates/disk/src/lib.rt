@@ -8,12 +8,13 @@
 //   ack_write_superblock, ack_write_journal        or a write
 //   land                                           a superblock write in flight lands
 //   step                                           one step over the whole disk operation type
-//   DiskStepped, SuperblockAcked, JournalAcked     what they answer: the next disk, or the number of a no and the disk as it was
+//   Stepped                                        what they answer, beside the disk after it: a value, or a no and the disk as it was;
+//   DiskStepped, SuperblockAcked, JournalAcked     no value, a superblock or damaged, the interval that was read
 //   refused                                        a no, for a caller that has asked itself
 // Each of these operations asks every question. One named `.._asked` is a part of an operation for a step that has asked questions 1 and 2
 // itself: it asks the others, decides by value and on shared slices, and leaves lent memory to journal's `write_blocks`, `set_marks` and
 // `copy_blocks`; `decide_asked` is such a part for any operation. Every function is total.
-#![tactic(auto)]
+#![tactic(auto, using(refusal::specs::Refusal::questions, laws::specs::Choice::tests), unfolding(laws::specs::Choice::and_then, laws::specs::Choice::ask, laws::specs::Choice::also, laws::specs::Choice::unless, crate::specs::Disk::answered_with, crate::specs::Questions::reads_ok, crate::specs::Questions::intervals_ok, crate::specs::Questions::disk_ok, crate::specs::Questions::ask_state, crate::specs::Questions::ask_disk, crate::specs::Questions::ask_disk_out, crate::specs::Next::recv_read_superblock_next, crate::specs::Next::recv_read_journal_next, crate::specs::Next::recv_write_superblock_next, crate::specs::Next::recv_write_journal_next, crate::specs::Next::ack_read_superblock_next, crate::specs::Next::ack_read_journal_next, crate::specs::Next::ack_write_superblock_next, crate::specs::Next::ack_write_journal_next, crate::specs::Next::land_next, crate::specs::Memory::ask_new_blocks, crate::specs::Memory::read_out))]
 
 mod acknowledge;
 mod answers;
@@ -25,8 +26,9 @@ mod receive;
 mod whole;
 
 use interval::JournalInterval;
+use refusal::Refusal;
 use requests::{Slots, SuperblockReads, SuperblockWrites};
-use superblock::{JournalRead, MaybeId, SuperblockRead};
+use superblock::{JournalRead, Superblock};
 use tables::IntervalTable;
 
 // Two slots, and the requests that wait. Its blocks and marks are lent beside it.
@@ -39,51 +41,25 @@ pub struct Disk {
     pub journalWrites: IntervalTable,
 }
 
-// What a call answers: done, or the number of the question that was answered no. The disk beside it is the next one, or the one given.
+// What an operation answers, and the disk after it: after a no, the disk as it was.
 #[derive(Clone, Copy)]
-pub enum DiskAnswer {
-    Done,
-    Refused(u8),
-}
-
-#[derive(Clone, Copy)]
-pub struct DiskStepped {
-    pub answer: DiskAnswer,
+pub struct Stepped<T> {
+    pub answer: Result<T, Refusal>,
     pub disk: Disk,
 }
 
-// The answer of a superblock read, with what was read.
-#[derive(Clone, Copy)]
-pub enum SuperblockAnswer {
-    Read(SuperblockRead),
-    Refused(u8),
-}
+pub type DiskStepped = Stepped<()>;
 
-#[derive(Clone, Copy)]
-pub struct SuperblockAcked {
-    pub answer: SuperblockAnswer,
-    pub disk: Disk,
-}
+pub type SuperblockAcked = Stepped<Option<Superblock>>;
 
-// The answer of a journal read, with the interval that the read was of.
-#[derive(Clone, Copy)]
-pub enum JournalAnswer {
-    Read(JournalInterval),
-    Refused(u8),
-}
-
-#[derive(Clone, Copy)]
-pub struct JournalAcked {
-    pub answer: JournalAnswer,
-    pub disk: Disk,
-}
+pub type JournalAcked = Stepped<JournalInterval>;
 
 // What an operation touches of lent blocks: a journal write sets some, a journal read's answer copies some, and no other touches any.
 #[derive(Clone, Copy)]
 pub(crate) enum Touched {
     Written {
         id1: u64,
-        id2: MaybeId,
+        id2: Option<u64>,
         interval: JournalInterval,
     },
     Read {

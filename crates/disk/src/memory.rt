@@ -1,18 +1,18 @@
 // The two operations that touch lent blocks, after questions 1 and 2: a journal write, and a journal read's answer.
 ghost use Rattle.std.specs.Prelude.{◌≡◌};
+ghost use Rattle.refusal.specs.Refusal.{asked};
 ghost use Rattle.laws.specs.Choice.{unless};
 ghost use Rattle.journal.specs.Memory.{update_bytes, update_marks};
-ghost use Rattle.disk.specs.Disk.{answered};
-ghost use Rattle.disk.specs.Next.{recv_write_journal_next};
+ghost use Rattle.disk.specs.Disk.{answered, answered_with};
+ghost use Rattle.disk.specs.Next.{recv_write_journal_next, ack_read_journal_next};
 ghost use Rattle.requests.specs.Acknowledge.{held_interval, ask_ack_read_journal};
-ghost use Rattle.disk.specs.Next.{journal_answered, ack_read_journal_next};
 ghost use Rattle.disk.specs.Memory.{ask_new_blocks, read_out};
 
-use super::{Disk, DiskStepped, JournalAcked, JournalAnswer};
+use super::{Disk, DiskStepped, JournalAcked};
 use interval::JournalInterval;
 use layout::Geometry;
+use refusal::Refusal;
 use requests::{ask_recv_write_journal, write_received};
-use superblock::MaybeId;
 use tables::IntervalTable;
 
 // Questions 4 to 9 of a journal write whose blocks are `new`.
@@ -20,16 +20,13 @@ fn ask_new_blocks(
     g: Geometry,
     table: IntervalTable,
     id1: u64,
-    id2: MaybeId,
+    id2: Option<u64>,
     v: JournalInterval,
     new: &[u8],
-) -> u8
-    ensures { result ≡ ask_new_blocks g table id1 id2 v new.now }
+) -> Result<(), Refusal>
+    ensures { result ≡ asked (ask_new_blocks g table id1 id2 v new.now) }
 {
-    let q = journal::ask_size(v, new);
-    if q != 0 {
-        return q;
-    }
+    journal::ask_size(v, new)?;
     ask_recv_write_journal(g, table, id1, id2, v)
 }
 
@@ -48,7 +45,7 @@ impl Disk {
         mut self,
         g: Geometry,
         id1: u64,
-        id2: MaybeId,
+        id2: Option<u64>,
         v: JournalInterval,
         new: &[u8],
         blocks: &mut [u8],
@@ -59,15 +56,14 @@ impl Disk {
         ensures marks_after { marks.new ≡ unless (ask_new_blocks g self.journalWrites id1 id2 v new.now) marks.old (update_marks marks.old v) }
     {
         let table = self.journalWrites;
-        let q = ask_new_blocks(g, table, id1, id2, v, new);
-        if q != 0 {
-            return self.refused(q);
+        if let Err(no) = ask_new_blocks(g, table, id1, id2, v, new) {
+            return self.refused(no);
         }
         let next = write_received(g, table, id1, id2, v);
         self.journalWrites = next;
         journal::write_blocks(v, new, blocks);
         journal::set_marks(v, marks);
-        self.done()
+        self.done(())
     }
 
     // The answer, then the blocks of the read.
@@ -79,15 +75,13 @@ impl Disk {
         marks: &[u8],
         out: &mut [u8],
     ) -> JournalAcked
-        ensures value { result ≡ journal_answered (ask_ack_read_journal self.journalReads id whole marks.now) (held_interval self.journalReads id) (ack_read_journal_next self id) self }
+        ensures value { result ≡ answered_with (ask_ack_read_journal self.journalReads id whole marks.now) (held_interval self.journalReads id) (ack_read_journal_next self id) self }
         ensures out_after { out.new ≡ unless (ask_ack_read_journal self.journalReads id whole marks.now) out.old (read_out whole (held_interval self.journalReads id) blocks.now out.old) }
     {
         let r = self.ack_read_journal_asked(id, whole, marks);
-        let a = r.answer;
-        let JournalAnswer::Read(v) = a else {
-            return r;
-        };
-        read_out(whole, v, blocks, out);
+        if let Ok(v) = r.answer {
+            read_out(whole, v, blocks, out);
+        }
         r
     }
 }

@@ -5,11 +5,12 @@ ghost use Rattle.disk.specs.Disk.{answered};
 ghost use Rattle.disk.specs.Operation.{is_whole, touched_by, as_stepped, ask_decision, ask_operation, operation_next, operation_blocks, operation_marks, operation_out};
 ghost use Rattle.disk.specs.Whole.{step, step_blocks, step_marks, step_out};
 
-use super::{Disk, DiskStepped, JournalAcked, JournalAnswer, Touched};
+use super::{Disk, DiskStepped, JournalAcked, Touched};
 use interval::JournalInterval;
 use layout::Geometry;
 use superblock::{DiskOp, JournalRead};
 
+#[tactic(auto, unfolding(crate::specs::Operation::is_whole))]
 fn is_whole(read: JournalRead) -> bool
     ensures { result ≡ is_whole read }
 {
@@ -19,6 +20,7 @@ fn is_whole(read: JournalRead) -> bool
     }
 }
 
+#[tactic(auto, unfolding(crate::specs::Operation::touched_by))]
 fn touched_by(op: DiskOp) -> Touched
     ensures { result ≡ touched_by op }
 {
@@ -46,11 +48,10 @@ fn touched_by(op: DiskOp) -> Touched
 fn as_stepped(r: JournalAcked) -> DiskStepped
     ensures { result ≡ as_stepped r }
 {
-    let a = r.answer;
-    let d = r.disk;
-    match a {
-        JournalAnswer::Read(_) => d.done(),
-        JournalAnswer::Refused(q) => d.refused(q),
+    let disk = r.disk;
+    match r.answer {
+        Ok(_) => disk.done(()),
+        Err(no) => disk.refused(no),
     }
 }
 
@@ -90,7 +91,7 @@ impl Disk {
             DiskOp::RespReadJournal { id, journal: _ } => self.read_journal_answered(id),
             DiskOp::RespWriteSuperblock { id, which } => self.ack_write_superblock_asked(which, id),
             DiskOp::RespWriteJournal { id } => self.ack_write_journal_asked(id),
-            DiskOp::NoDiskOp => self.done(),
+            DiskOp::NoDiskOp => self.done(()),
         }
     }
 
@@ -138,9 +139,8 @@ impl Disk {
         ensures marks_after { marks.new ≡ step_marks g self op new.now blocks.old marks.old out.old }
         ensures out_after { out.new ≡ step_out g self op new.now blocks.old marks.old out.old }
     {
-        let q = self.ask_with_buffer(g, blocks, marks, out);
-        if q != 0 {
-            return self.refused(q);
+        if let Err(no) = self.ask_with_buffer(g, blocks, marks, out) {
+            return self.refused(no);
         }
         self.operate(g, op, new, blocks, marks, out)
     }

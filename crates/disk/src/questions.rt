@@ -1,9 +1,11 @@
 // Questions 1 and 2: the lent memory, and the state.
 ghost use Rattle.std.specs.Prelude.{◌≡◌};
+ghost use Rattle.refusal.specs.Refusal.{asked};
 ghost use Rattle.disk.specs.Questions.{reads_ok, intervals_ok, disk_ok, ask_state, ask_disk, ask_disk_out};
 
 use super::Disk;
 use layout::Geometry;
+use refusal::Refusal;
 use requests::{MOST_JOURNAL_READS, MOST_JOURNAL_WRITES, MOST_SUPERBLOCK_READS, SuperblockReads};
 use tables::IntervalTable;
 
@@ -42,39 +44,36 @@ impl Disk {
     }
 
     // Question 2.
-    pub fn ask_state(self, g: Geometry) -> u8
-        ensures { result ≡ ask_state g self }
+    pub fn ask_state(self, g: Geometry) -> Result<(), Refusal>
+        ensures { result ≡ asked (ask_state g self) }
     {
         let b = self.ok(g);
         if b {
-            return 0;
+            return Ok(());
         }
-        2
+        Err(Refusal::State)
     }
 
     // Questions 1 and 2.
-    pub fn ask(self, g: Geometry, blocks: &[u8], marks: &[u8]) -> u8
-        ensures { result ≡ ask_disk g self blocks.now marks.now }
+    pub fn ask(self, g: Geometry, blocks: &[u8], marks: &[u8]) -> Result<(), Refusal>
+        ensures { result ≡ asked (ask_disk g self blocks.now marks.now) }
     {
-        let q = journal::ask_journal(g, blocks, marks);
-        if q != 0 {
-            return q;
-        }
+        journal::ask_journal(g, blocks, marks)?;
         self.ask_state(g)
     }
 
     // The same with a buffer of N blocks that a read's blocks are copied to.
-    pub fn ask_with_buffer(self, g: Geometry, blocks: &[u8], marks: &[u8], out: &[u8]) -> u8
-        ensures { result ≡ ask_disk_out g self blocks.now marks.now out.now }
+    pub fn ask_with_buffer(
+        self,
+        g: Geometry,
+        blocks: &[u8],
+        marks: &[u8],
+        out: &[u8],
+    ) -> Result<(), Refusal>
+        ensures { result ≡ asked (ask_disk_out g self blocks.now marks.now out.now) }
     {
-        let q = journal::ask_journal(g, blocks, marks);
-        if q != 0 {
-            return q;
-        }
-        let p = journal::ask_blocks(g, out);
-        if p != 0 {
-            return p;
-        }
+        journal::ask_journal(g, blocks, marks)?;
+        journal::ask_blocks(g, out)?;
         self.ask_state(g)
     }
 }

@@ -12,20 +12,19 @@ use requests::{
     SuperblockWrite, ask_recv_read_journal, ask_recv_read_superblock, ask_recv_write_journal,
     ask_recv_write_superblock, read_received, write_received,
 };
-use superblock::{MaybeId, Superblock};
+use superblock::Superblock;
 
 impl Disk {
     pub fn recv_read_superblock_asked(mut self, which: u64, id: u64) -> DiskStepped
         ensures { result ≡ answered (ask_recv_read_superblock self.superblockReads which id) (recv_read_superblock_next self which id) self }
     {
         let reads = self.superblockReads;
-        let q = ask_recv_read_superblock(reads, which, id);
-        if q != 0 {
-            return self.refused(q);
+        if let Err(no) = ask_recv_read_superblock(reads, which, id) {
+            return self.refused(no);
         }
         let next = read_received(reads, which, id);
         self.superblockReads = next;
-        self.done()
+        self.done(())
     }
 
     pub fn recv_read_journal_asked(
@@ -37,13 +36,12 @@ impl Disk {
         ensures { result ≡ answered (ask_recv_read_journal g self.journalReads id v) (recv_read_journal_next self id v) self }
     {
         let table = self.journalReads;
-        let q = ask_recv_read_journal(g, table, id, v);
-        if q != 0 {
-            return self.refused(q);
+        if let Err(no) = ask_recv_read_journal(g, table, id, v) {
+            return self.refused(no);
         }
         let next = table.add(id, v);
         self.journalReads = next;
-        self.done()
+        self.done(())
     }
 
     // The newer write takes the older one's place.
@@ -56,17 +54,13 @@ impl Disk {
         ensures { result ≡ answered (ask_recv_write_superblock self.superblockWrites which id) (recv_write_superblock_next self which id superblock) self }
     {
         let writes = self.superblockWrites;
-        let q = ask_recv_write_superblock(writes, which, id);
-        if q != 0 {
-            return self.refused(q);
+        if let Err(no) = ask_recv_write_superblock(writes, which, id) {
+            return self.refused(no);
         }
-        let write = SuperblockWrite::Writing {
-            id: id,
-            superblock: superblock,
-        };
-        let next = writes.put(which, write);
+        let write = SuperblockWrite { id, superblock };
+        let next = writes.put(which, Some(write));
         self.superblockWrites = next;
-        self.done()
+        self.done(())
     }
 
     // The rows of a write of the blocks of `v`. Whoever calls writes the blocks and sets the marks.
@@ -74,18 +68,17 @@ impl Disk {
         mut self,
         g: Geometry,
         id1: u64,
-        id2: MaybeId,
+        id2: Option<u64>,
         v: JournalInterval,
     ) -> DiskStepped
         ensures { result ≡ answered (ask_recv_write_journal g self.journalWrites id1 id2 v) (recv_write_journal_next g self id1 id2 v) self }
     {
         let table = self.journalWrites;
-        let q = ask_recv_write_journal(g, table, id1, id2, v);
-        if q != 0 {
-            return self.refused(q);
+        if let Err(no) = ask_recv_write_journal(g, table, id1, id2, v) {
+            return self.refused(no);
         }
         let next = write_received(g, table, id1, id2, v);
         self.journalWrites = next;
-        self.done()
+        self.done(())
     }
 }

@@ -3,10 +3,10 @@
 ghost use Rattle.std.specs.Prelude.{◌≡◌};
 ghost use Rattle.disk.specs.Whole.{recv_read_superblock, recv_read_journal, recv_write_superblock, recv_write_journal, recv_write_journal_blocks, recv_write_journal_marks, ack_read_superblock, ack_read_journal, ack_read_journal_out, ack_write_superblock, ack_write_journal, land};
 
-use super::{Disk, DiskStepped, JournalAcked, JournalAnswer, SuperblockAcked, SuperblockAnswer};
+use super::{Disk, DiskStepped, JournalAcked, SuperblockAcked};
 use interval::JournalInterval;
 use layout::Geometry;
-use superblock::{MaybeId, Superblock};
+use superblock::Superblock;
 
 impl Disk {
     // A read of a superblock is received.
@@ -20,9 +20,8 @@ impl Disk {
     ) -> DiskStepped
         ensures { result ≡ recv_read_superblock g self which id blocks.now marks.now }
     {
-        let q = self.ask(g, blocks, marks);
-        if q != 0 {
-            return self.refused(q);
+        if let Err(no) = self.ask(g, blocks, marks) {
+            return self.refused(no);
         }
         self.recv_read_superblock_asked(which, id)
     }
@@ -38,9 +37,8 @@ impl Disk {
     ) -> DiskStepped
         ensures { result ≡ recv_read_journal g self id v blocks.now marks.now }
     {
-        let q = self.ask(g, blocks, marks);
-        if q != 0 {
-            return self.refused(q);
+        if let Err(no) = self.ask(g, blocks, marks) {
+            return self.refused(no);
         }
         self.recv_read_journal_asked(g, id, v)
     }
@@ -57,9 +55,8 @@ impl Disk {
     ) -> DiskStepped
         ensures { result ≡ recv_write_superblock g self which id superblock blocks.now marks.now }
     {
-        let q = self.ask(g, blocks, marks);
-        if q != 0 {
-            return self.refused(q);
+        if let Err(no) = self.ask(g, blocks, marks) {
+            return self.refused(no);
         }
         self.recv_write_superblock_asked(which, id, superblock)
     }
@@ -69,7 +66,7 @@ impl Disk {
         self,
         g: Geometry,
         id1: u64,
-        id2: MaybeId,
+        id2: Option<u64>,
         start: u64,
         new: &[u8],
         blocks: &mut [u8],
@@ -79,9 +76,8 @@ impl Disk {
         ensures blocks_after { blocks.new ≡ recv_write_journal_blocks g self id1 id2 start new.now blocks.old marks.old }
         ensures marks_after { marks.new ≡ recv_write_journal_marks g self id1 id2 start new.now blocks.old marks.old }
     {
-        let q = self.ask(g, blocks, marks);
-        if q != 0 {
-            return self.refused(q);
+        if let Err(no) = self.ask(g, blocks, marks) {
+            return self.refused(no);
         }
         let v = JournalInterval {
             start: start,
@@ -102,12 +98,8 @@ impl Disk {
     ) -> SuperblockAcked
         ensures { result ≡ ack_read_superblock g self which id whole blocks.now marks.now }
     {
-        let q = self.ask(g, blocks, marks);
-        if q != 0 {
-            return SuperblockAcked {
-                answer: SuperblockAnswer::Refused(q),
-                disk: self,
-            };
+        if let Err(no) = self.ask(g, blocks, marks) {
+            return self.refused(no);
         }
         self.ack_read_superblock_asked(which, id, whole)
     }
@@ -125,12 +117,8 @@ impl Disk {
         ensures value { result ≡ ack_read_journal g self id whole blocks.now marks.now out.old }
         ensures out_after { out.new ≡ ack_read_journal_out g self id whole blocks.now marks.now out.old }
     {
-        let q = self.ask_with_buffer(g, blocks, marks, out);
-        if q != 0 {
-            return JournalAcked {
-                answer: JournalAnswer::Refused(q),
-                disk: self,
-            };
+        if let Err(no) = self.ask_with_buffer(g, blocks, marks, out) {
+            return self.refused(no);
         }
         self.read_blocks(id, whole, blocks, marks, out)
     }
@@ -146,9 +134,8 @@ impl Disk {
     ) -> DiskStepped
         ensures { result ≡ ack_write_superblock g self which id blocks.now marks.now }
     {
-        let q = self.ask(g, blocks, marks);
-        if q != 0 {
-            return self.refused(q);
+        if let Err(no) = self.ask(g, blocks, marks) {
+            return self.refused(no);
         }
         self.ack_write_superblock_asked(which, id)
     }
@@ -157,9 +144,8 @@ impl Disk {
     pub fn ack_write_journal(self, g: Geometry, id: u64, blocks: &[u8], marks: &[u8]) -> DiskStepped
         ensures { result ≡ ack_write_journal g self id blocks.now marks.now }
     {
-        let q = self.ask(g, blocks, marks);
-        if q != 0 {
-            return self.refused(q);
+        if let Err(no) = self.ask(g, blocks, marks) {
+            return self.refused(no);
         }
         self.ack_write_journal_asked(id)
     }
@@ -168,9 +154,8 @@ impl Disk {
     pub fn land(self, g: Geometry, which: u64, blocks: &[u8], marks: &[u8]) -> DiskStepped
         ensures { result ≡ land g self which blocks.now marks.now }
     {
-        let q = self.ask(g, blocks, marks);
-        if q != 0 {
-            return self.refused(q);
+        if let Err(no) = self.ask(g, blocks, marks) {
+            return self.refused(no);
         }
         self.land_asked(which)
     }

@@ -1,4 +1,6 @@
 -- The ids under which something waits at a disk, and the least of the others.
+use Rattle.std.specs.declared.option.Option as code
+use Rattle.std.specs.Prelude.{None, Some}
 use Rattle.std.specs.Prelude.{ℕ, ◌<◌, Bool, true, false, cond, ◌≡◌, List, [], ◌∷◌, eqb, length, take}
 use Rattle.std.proofs.Common.{ap, arith, length-take}
 use Rattle.laws.specs.Choice.{either}
@@ -7,13 +9,12 @@ use Rattle.laws.specs.Sets.{ids_of, AtMost, none_few, listed_few, either_few}
 use Rattle.tables.specs.IdTable.{id_set, SizedIds}
 use Rattle.tables.specs.IntervalTable.{SizedIntervals}
 use Rattle.requests.specs.declared.SuperblockWrite.{SuperblockWrite}
-use Rattle.requests.specs.declared.SuperblockWrite.TheVariants as write
-use Rattle.requests.specs.declared.SuperblockWrites.{SuperblockWrites}
+use Rattle.requests.specs.Slots.{SuperblockWrites}
 use Rattle.disk.specs.declared.Disk.{Disk}
 
-abbrev pub writes_id : SuperblockWrite → ℕ → Bool
-writes_id (write.Writing k superblock) id = eqb k id
-writes_id write.NoWrite id = false
+abbrev pub writes_id : code.Option SuperblockWrite → ℕ → Bool
+writes_id (Some w) id = eqb w.id id
+writes_id None id = false
 
 abbrev pub writes_hold : SuperblockWrites → ℕ → Bool
 writes_hold w id = either (writes_id w.first id) (writes_id w.second id)
@@ -39,10 +40,10 @@ lower_held d id h = least_lower (holds d) 66 0 id (omega arith) h
 table_few : (count : ℕ) (ids : List ℕ) → length ids ≡ 16 → AtMost 16 (ids_of (take count ids))
 table_few count ids h = listed_few 16 (take count ids) (simp length-take (omega (arith, h)))
 
-write_few : (w : SuperblockWrite) → AtMost 1 (writes_id w)
+write_few : (w : code.Option SuperblockWrite) → AtMost 1 (writes_id w)
 unfolding ids_of
-write_few (write.Writing k superblock) = record { listed = k ∷ []; few = omega arith; all = λ i e. ap (λ (b : Bool). cond b true false) e }
-write_few write.NoWrite = none_few 1
+write_few (Some w) = record { listed = w.id ∷ []; few = omega arith; all = λ i e. ap (λ (b : Bool). cond b true false) e }
+write_few None = none_few 1
 
 -- the arrays' lengths are their type's
 pub least_is_new : (d : Disk) → SizedIds d.superblockReads.first → SizedIds d.superblockReads.second → SizedIntervals d.journalReads → SizedIntervals d.journalWrites

@@ -8,15 +8,12 @@ use requests::{SuperblockWrite, SuperblockWrites};
 // The places of a disk's tables: 16 for the reads of each slot, 16 journal reads, 16 journal writes, a write for each slot.
 const PLACES: u64 = 66;
 
-fn writes_id(w: SuperblockWrite, id: u64) -> bool
+fn writes_id(w: Option<SuperblockWrite>, id: u64) -> bool
     ensures { result ≡ writes_id w id }
 {
     match w {
-        SuperblockWrite::Writing {
-            id: k,
-            superblock: _,
-        } => k == id,
-        SuperblockWrite::NoWrite => false,
+        Some(x) => x.id == id,
+        None => false,
     }
 }
 
@@ -49,17 +46,14 @@ fn holds(d: Disk, id: u64) -> bool
 }
 
 // No more ids are held than there are places, so one of the first 67 numbers is new.
+#[tactic(auto, using(laws::specs::Least::least_hit, laws::specs::Least::least_turn, laws::specs::Least::least_end))]
 pub fn least_new(d: Disk) -> u64
     ensures { result ≡ least_new d }
 {
-    let mut i: u64 = 0;
-    while i < PLACES {
-        let held = holds(d, i);
-        if held {
-            i += 1;
-        } else {
+    for i in 0..PLACES {
+        if !holds(d, i) {
             return i;
         }
     }
-    i
+    PLACES
 }

@@ -3,13 +3,13 @@ ghost use Rattle.std.specs.Prelude.{◌≡◌};
 ghost use Rattle.store.specs.Lent.{lent};
 ghost use Rattle.driver.specs.Driver.{slot_step, piece_step, superblocks_step, other_step, loading_step, next_step};
 
-use super::Drive;
 use super::ids::least_new;
 use calls::Step;
-use interval::MaybeInterval;
+use interval::JournalInterval;
 use layout::Geometry;
 use loading::{LoadingOther, LoadingSuperblock, Piece, SlotRead};
 use machine::Kind;
+use refusal::Refusal;
 use store::Store;
 
 // A slot's step; where it was read, the one that comes after it.
@@ -32,12 +32,12 @@ fn slot_step(new: u64, which: u64, slot: SlotRead, after: Step) -> Step
 }
 
 // A piece's step; where there is none or it is in, the one that comes after it.
-fn piece_step(new: u64, which: u64, v: MaybeInterval, piece: Piece, after: Step) -> Step
+fn piece_step(new: u64, which: u64, v: Option<JournalInterval>, piece: Piece, after: Step) -> Step
     ensures { result ≡ piece_step new which v piece after }
 {
     match v {
-        MaybeInterval::Nothing => after,
-        MaybeInterval::Is(_) => match piece {
+        None => after,
+        Some(_) => match piece {
             Piece::Unread => Step::PageInJournalReq {
                 which: which,
                 id: new,
@@ -75,7 +75,7 @@ fn other_step(g: Geometry, new: u64, s: LoadingOther) -> Step
 }
 
 // After questions 1 and 2.
-fn loading_step(g: Geometry, s: Store) -> Drive
+fn loading_step(g: Geometry, s: Store) -> Result<Step, Refusal>
     ensures { result ≡ loading_step g s }
 {
     let d = s.disk;
@@ -86,15 +86,15 @@ fn loading_step(g: Geometry, s: Store) -> Drive
             let new = least_new(d);
             let superblocks = m.superblocks;
             let x = superblocks_step(new, superblocks);
-            Drive::Take(x)
+            Ok(x)
         },
         Kind::LoadingOther => {
             let new = least_new(d);
             let other = m.other;
             let x = other_step(g, new, other);
-            Drive::Take(x)
+            Ok(x)
         },
-        Kind::Ready => Drive::Refused(3),
+        Kind::Ready => Err(Refusal::Kind),
     }
 }
 
@@ -109,12 +109,9 @@ pub fn next_step(
     rlens: &[u16],
     blocks: &[u8],
     marks: &[u8],
-) -> Drive
+) -> Result<Step, Refusal>
     ensures { result ≡ next_step g (lent bytes.now lens.now pieces.now rbytes.now rlens.now blocks.now marks.now) s }
 {
-    let q = s.ask_state(g, bytes, lens, pieces, rbytes, rlens, blocks, marks);
-    if q != 0 {
-        return Drive::Refused(q);
-    }
+    s.ask_state(g, bytes, lens, pieces, rbytes, rlens, blocks, marks)?;
     loading_step(g, s)
 }

@@ -3,12 +3,9 @@
 #![tactic(auto)]
 
 mod answers;
-mod input;
 mod line;
 mod row;
 mod state;
-
-ghost use Rattle.std.specs.Prelude.{◌≡◌, ◌-◌, ◌<◌};
 
 // The place of the next line, the number of the last one, and whether every row was written.
 #[derive(Clone, Copy)]
@@ -18,44 +15,22 @@ pub struct Lines {
     pub written: bool,
 }
 
-fn one_less(turns: usize) -> usize
-    requires { 0 < turns }
-    ensures { result ≡ turns - 1 }
-{
-    turns - 1
-}
-
-// The number after this one; the largest stays.
-fn after(n: u64) -> u64 {
-    if n == u64::MAX {
-        return n;
-    }
-    n + 1
-}
-
 // One line and its row; nothing where the input is over, or a row could not be written.
 fn turn(rt: &impl Print, l: Lines, input: &[u8]) -> Lines {
     let from = l.at;
-    if input.len() <= from {
+    if input.len() <= from || !l.written {
         return l;
     }
-    if !l.written {
+    let end = words::next(input, from, input.len(), b'\n');
+    if end < from || input.len() < end {
         return l;
     }
-    let end = words::next(input, from, input.len(), 10);
-    if end < from {
-        return l;
-    }
-    if input.len() < end {
-        return l;
-    }
-    let n = after(l.row);
-    let h = line::read(&input[from..end]);
-    let written = row::answer(rt, n, h);
+    let n = l.row.saturating_add(1);
+    let handed = line::read(&input[from..end]);
     Lines {
-        at: after(end as u64) as usize,
+        at: end.saturating_add(1),
         row: n,
-        written,
+        written: row::answer(rt, n, handed),
     }
 }
 
@@ -67,17 +42,15 @@ fn run(rt: &impl Print, input: &[u8]) -> bool {
         row: 0,
         written,
     };
-    let mut turns = input.len();
-    while 0 < turns {
+    for _ in 0..input.len() {
         l = turn(rt, l, input);
-        turns = one_less(turns);
     }
     l.written
 }
 
 fn main(rt: HostRuntime) {
     let mut buffer = [0u8; 65536];
-    let i = input::read(&mut rt.stdin(), &mut buffer);
+    let i = streams::read_input(&mut rt.stdin(), &mut buffer);
     if i.failed {
         let _ = eprintln!(rt; "handed: standard input can't be read");
         return;
@@ -88,7 +61,7 @@ fn main(rt: HostRuntime) {
         );
         return;
     }
-    let end = runs::lesser(i.len, buffer.len());
+    let end = i.len.min(buffer.len());
     let written = run(&rt, &buffer[0..end]);
     if !written {
         let _ = eprintln!(rt; "handed: the rows can't be written");

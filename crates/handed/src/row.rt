@@ -2,7 +2,7 @@
 use super::answers;
 use super::line::Handed;
 
-fn print(rt: &impl Print, n: u64, d: u64, s: u64) -> bool {
+fn print(rt: &impl Print, n: u64, d: u8, s: u8) -> bool {
     println!(rt; "{n} {d} {s}").is_ok()
 }
 
@@ -11,11 +11,9 @@ fn not_a_store(rt: &impl Print, n: u64) -> bool {
 }
 
 // Was it written?
-pub(crate) fn answer(rt: &impl Print, n: u64, h: Handed) -> bool {
-    if h.ok {
-        let d = answers::of_disk(h);
-        let s = answers::of_store(h);
-        return print(rt, n, d, s);
+pub(crate) fn answer(rt: &impl Print, n: u64, handed: Option<Handed>) -> bool {
+    match handed {
+        Some(h) => print(rt, n, answers::of_disk(h), answers::of_store(h)),
+        None => not_a_store(rt, n),
     }
-    not_a_store(rt, n)
 }

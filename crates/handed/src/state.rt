@@ -5,10 +5,10 @@ use interval::JournalInterval;
 use layout::{Geometry, Location};
 use machine::Machine;
 use memory::Count;
-use ready::{Commit, Entries, Frozen, MaybeLocation, Ready};
+use ready::{Commit, Entries, Frozen, Ready};
 use requests::Slots;
 use store::Store;
-use superblock::{MaybeSuperblock, Superblock};
+use superblock::Superblock;
 
 pub(crate) fn geometry() -> Geometry {
     Geometry {
@@ -40,12 +40,11 @@ pub(crate) fn disk(h: Handed) -> Disk {
     let first = superblock(7, JournalInterval { start: 0, len: 0 });
     let second = selected(h);
     let slots = Slots {
-        first: MaybeSuperblock::Holds(first),
-        second: MaybeSuperblock::Holds(second),
+        first: Some(first),
+        second: Some(second),
     };
-    let held = h.held;
     let mut d = Disk::idle(slots);
-    d.journalWrites = held;
+    d.journalWrites = h.held;
     d
 }
 
@@ -68,7 +67,7 @@ fn ready(h: Handed) -> Ready {
     let frozen = Frozen {
         isFrozen: false,
         frozenJournalPosition: 0,
-        frozenLoc: MaybeLocation::NoLocation,
+        frozenLoc: None,
     };
     let entries = no_entries();
     let writes = h.awaited;

@@ -1,5 +1,5 @@
 -- The interval that is found, and the ways out of a record.
-use Rattle.std.specs.Prelude.{ℕ, ◌+◌, ◌*◌, ◌-◌, ◌≤◌, ◌<◌, Bool, ◌≡◌, eqb, length, drop}
+use Rattle.std.specs.Prelude.{ℕ, ◌+◌, ◌*◌, ◌-◌, ◌≤◌, ◌<◌, Bool, ◌≡◌, length, drop, Result, Ok, Err, IsErrAnd, ⊤, eqb}
 use Rattle.std.proofs.Math.Bool.{true, false, cond}
 use Rattle.std.proofs.Math.Path.{refl, sym, ap}
 use Rattle.std.proofs.Common.{◌∙◌, subst, arith, length-drop, drop-drop, le-leb}
@@ -7,32 +7,36 @@ use mathlib.Core.List.{List}
 use Rattle.std.proofs.Math.ListN.{take}
 use Rattle.std.proofs.lemmas.Bool.{lt-leb}
 use Rattle.laws.specs.Around.{around_straight}
-use Rattle.laws.specs.Choice.{unless, and_then_both, ask_yes, ask_holds, asked_yes, asked_no, unless_kept, unless_done}
+use Rattle.laws.specs.Choice.{unless, and_then_both, ask_yes, ask_holds, asked_yes, asked_no, unless_kept, unless_done, and_then, ask}
 use Rattle.laws.specs.Cut.{flat, lengths}
 use Rattle.laws.specs.Fold.{sum, every, every_take, every_drop}
 use Rattle.laws.specs.Part.{tail_is, part_of_front}
 use Rattle.laws.specs.Splice.{splice, part_splice}
 use Rattle.layout.specs.declared.Geometry.{Geometry}
-use Rattle.layout.specs.Geometry.{asked_geometry}
+use Rattle.layout.specs.Geometry.{ask_geometry, asked_geometry}
 use Rattle.interval.specs.Facts.{ValidJournalInterval, facts_interval}
 use Rattle.interval.specs.Interval.{ask_interval}
 use Rattle.superblock.specs.declared.Superblock.{Superblock}
-use Rattle.journal.specs.Memory.{slice_bytes, ask_slice_bytes, ask_readable}
+use Rattle.journal.specs.Memory.{slice_bytes, ask_slice_bytes, ask_marks, ask_readable}
 use Rattle.journal.specs.Asked.{asked_blocks}
 use Rattle.journal.specs.Cells.{length_bytes, slice_every}
 use Rattle.range.specs.Form.{Entry, all_entries, all_parse}
-use Rattle.reader.specs.declared.answer.Scanned.{Scanned}
-use Rattle.reader.specs.declared.answer.Scanned.TheVariants as scan
-use Rattle.reader.specs.Answer.{scanned}
+use Rattle.std.proofs.lemmas.Result.{err_from_is_err_and}
+use Rattle.refusal.specs.Refusal.{asked, ok_unless, number_of, small_ask, small_then}
+use Rattle.refusal.specs.Refusal as answer
+use Rattle.refusal.specs.declared.Refusal.{Refusal}
+use Rattle.range.specs.declared.Count.{Count}
+use Rattle.reader.specs.Answer.{scanned, count_of}
 use Rattle.unpacker.specs.Unpack as unpack
 use Rattle.unpacker.specs.Unpack.{ask_unpack}
 use Rattle.sector.specs.Sector.{sector_size}
-use Rattle.image.specs.declared.Refusal.{Refusal}
 use Rattle.image.specs.declared.Choice.{Choice}
-use Rattle.image.specs.declared.Recorded.TheVariants as recorded
-use Rattle.image.specs.Image.{Lent, lent, slot_read, journal_of, interval_of, interval_bytes, straight, sector_superblock, ask_lent, refusal, selected, which, chosen, readable, interval_entries, ask_parse, ask_record, record_of, pieces_after, record_lent}
-use Rattle.image.specs.Asked.{image_asked, no_first, no_next, no_left, no_right, SlotsAsked, slots_asked, selected_formed, chosen_asked, readable_yes}
-use Rattle.image.specs.Found.{Fetches, MayFetch, found_in, found_lent, held_by}
+use Rattle.image.specs.declared.Held.{Held}
+use Rattle.image.specs.declared.Refused.{Refused}
+use Rattle.image.specs.Image.{Lent, lent, of_slot, choice_of, ask_image, slot_read, journal_of, interval_of, interval_bytes, straight, sector_superblock, ask_lent, No, refusal, refused, no_unless, Chosen, selected, chosen, readable, interval_entries, ask_parse, held, ask_record, record_of, pieces_after, record_lent}
+use Rattle.image.proofs.ChoosingLaws.{number_is}
+use Rattle.image.specs.Asked.{choice_yes, choice_no, readable_refused, readable_asked, image_asked, no_first, no_next, no_left, no_right, SlotsAsked, slots_asked, selected_formed, chosen_asked, readable_yes}
+use Rattle.image.specs.Found.{Fetches, found_in, found_lent, held_in}
 
 -- an interval's bytes are a slice of the journal's; those of a disk of bytes are bytes
 pub interval_is : (g : Geometry) (disk : List ℕ) (s : Superblock) → interval_bytes g disk s ≡ slice_bytes (journal_of g disk) (interval_of s)
@@ -107,7 +111,7 @@ module _ (g : Geometry) (s : Superblock) (disk : List ℕ) (l : Lent)
       (omega (arith, length_interval, f.lent.lens_size, f.formed.len_in))
 
   -- and what was unpacked of it, wherever it lay
-  pub found : (xs : List ℕ) → xs ≡ interval_bytes g disk s → (pieces x y z : List ℕ) (r : Scanned) → x ≡ pieces
+  pub found : (xs : List ℕ) → xs ≡ interval_bytes g disk s → (pieces x y z : List ℕ) (r : Result Count Refusal) → x ≡ pieces
       → (r ≡ scanned (ask_unpack xs l.rbytes l.rlens) (all_entries xs))
       × ((y ≡ unless (ask_unpack xs l.rbytes l.rlens) l.rbytes (splice l.rbytes 0 (flat (all_entries xs))))
       × (z ≡ unless (ask_unpack xs l.rbytes l.rlens) l.rlens (splice l.rlens 0 (lengths (all_entries xs)))))
@@ -134,7 +138,7 @@ unfolding pieces_after straight
 pieces_round g disk s pieces h = ap (λ (b : Bool). cond b pieces (splice pieces 0 (interval_bytes g disk s))) (lt-leb _ _ h)
 
 -- the ways out, by a choice
-module _ (g : Geometry) (disk : List ℕ) (c : Choice) (l : Lent) where
+module _ (g : Geometry) (disk : List ℕ) (c : Chosen) (l : Lent) where
   -- a no before the interval is looked at
   module _ (h : c.no.number ≡ 0 → ⊥) where
     no_is : ask_record g disk c ≡ refusal c.no.number c.no.slot
@@ -142,13 +146,13 @@ module _ (g : Geometry) (disk : List ℕ) (c : Choice) (l : Lent) where
     no_is = no_first c.no.number c.no.slot _ h
 
     not_all : (ask_record g disk c).number ≡ 0 → ⊥
-    not_all e = h (ap (λ (r : Refusal). r.number) (sym no_is) ∙ e)
+    not_all e = h (ap (λ (r : No). r.number) (sym no_is) ∙ e)
 
-    pub record_refused : recorded.Refused c.no.number c.no.slot ≡ record_of g disk c
+    pub record_refused : Err (refused c.no) ≡ record_of g disk c
     unfolding record_of
     record_refused =
-        ap (λ (r : Refusal). recorded.Refused r.number r.slot) (sym no_is)
-        ∙ sym (asked_no (ask_record g disk c).number _ (recorded.Refused (ask_record g disk c).number (ask_record g disk c).slot) not_all)
+        ap (λ (r : No). Err (refused r)) (sym no_is)
+        ∙ sym (asked_no (ask_record g disk c).number _ _ not_all)
 
     pub lent_refused : l ≡ record_lent g disk c l
     unfolding record_lent
@@ -165,25 +169,9 @@ module _ (g : Geometry) (disk : List ℕ) (c : Choice) (l : Lent) where
     unfolding ask_record
     asks_parse = no_next c.no.number c.no.slot _ h
 
-    held_found : (q : ℕ) (es : List Entry) (s : Superblock) (w : ℕ)
-        → held_by s w (scanned q es) ≡ cond (eqb q 0) (recorded.Held s w (length es) (sum (lengths es))) (recorded.Refused q 0)
-    unfolding held_by
-    held_found q es s w = go (eqb q 0)
-      where
-        go : (b : Bool) → held_by s w (cond b (scan.Total (length es) (sum (lengths es))) (scan.Refused q)) ≡ cond b (recorded.Held s w (length es) (sum (lengths es))) (recorded.Refused q 0)
-        go true = refl
-        go false = refl
-
-    pub record_found : (r : Scanned) → r ≡ found_in g disk c.superblock → held_by c.superblock c.which r ≡ record_of g disk c
+    pub record_found : held_in g disk (record { superblock = c.superblock; which = c.which }) ≡ record_of g disk c
     unfolding record_of
-    record_found r e =
-        ap (held_by c.superblock c.which) e
-        ∙ held_found (ask_parse g disk c.superblock) (interval_entries g disk c.superblock) c.superblock c.which
-        ∙ sym
-        (λ i.
-        cond (eqb (asks_parse i).number 0)
-        (recorded.Held c.superblock c.which (length (interval_entries g disk c.superblock)) (sum (lengths (interval_entries g disk c.superblock))))
-        (recorded.Refused (asks_parse i).number (asks_parse i).slot))
+    record_found = ap (λ (r : No). no_unless r (held c.superblock c.which (interval_entries g disk c.superblock))) (sym asks_parse)
 
     pub lent_found : (x : Lent) → x ≡ found_lent g disk c.superblock (pieces_after g disk c.superblock l.pieces) l → x ≡ record_lent g disk c l
     unfolding record_lent
@@ -196,12 +184,12 @@ module _ (g : Geometry) (disk : List ℕ) (c : Choice) (l : Lent) where
         (unless (sym asks_parse i).number l.rlens (splice l.rlens 0 (lengths (interval_entries g disk c.superblock)))))
 
 -- a record that is held: the answer, and replay memory
-module _ (g : Geometry) (disk : List ℕ) (c : Choice) (h : c.no.number ≡ 0) (k : ask_parse g disk c.superblock ≡ 0) where
+module _ (g : Geometry) (disk : List ℕ) (c : Chosen) (h : c.no.number ≡ 0) (k : ask_parse g disk c.superblock ≡ 0) where
   pub asked_record : (ask_record g disk c).number ≡ 0
   unfolding ask_record
-  asked_record = ap (λ (r : Refusal). r.number) (no_next c.no.number c.no.slot _ h) ∙ k
+  asked_record = ap (λ (r : No). r.number) (no_next c.no.number c.no.slot _ h) ∙ k
 
-  pub held_yes : record_of g disk c ≡ recorded.Held c.superblock c.which (length (interval_entries g disk c.superblock)) (sum (lengths (interval_entries g disk c.superblock)))
+  pub held_yes : record_of g disk c ≡ Ok (held c.superblock c.which (interval_entries g disk c.superblock))
   unfolding record_of
   held_yes = asked_yes (ask_record g disk c).number _ _ asked_record
 
@@ -214,7 +202,7 @@ module _ (g : Geometry) (disk : List ℕ) (c : Choice) (h : c.no.number ≡ 0) (
   lens_yes l = unless_done (ask_record g disk c).number l.rlens _ asked_record
 
 -- and nothing was refused of it
-pub record_asked : (g : Geometry) (disk : List ℕ) (c : Choice) → (ask_record g disk c).number ≡ 0 → (c.no.number ≡ 0) × (all_parse (interval_bytes g disk c.superblock) ≡ true)
+pub record_asked : (g : Geometry) (disk : List ℕ) (c : Chosen) → (ask_record g disk c).number ≡ 0 → (c.no.number ≡ 0) × (all_parse (interval_bytes g disk c.superblock) ≡ true)
 unfolding ask_record
 record_asked g disk c e = (no_left _ _ _ e, ask_yes 7 _ (omega arith) (no_right _ _ _ e))
 
@@ -234,28 +222,103 @@ marked_record g disk marks q e =
     (asked_record g disk (chosen g disk q) y.0 (ask_holds 7 _ r.1), y.1)
 
 -- what `record` chooses may be fetched, and what `record_marked` chooses
-pub unmarked_may : (g : Geometry) (disk : List ℕ) (l : Lent) (q : ℕ) (c : Choice) → (q ≡ 0 → ask_lent g disk l ≡ 0) → c ≡ chosen g disk q
-    → MayFetch g c (length disk) (length l.pieces) (length l.rbytes) (length l.rlens)
+pub unmarked_may : (g : Geometry) (disk : List ℕ) (l : Lent) (q : ℕ) → (q ≡ 0 → ask_lent g disk l ≡ 0) → (chosen g disk q).no.number ≡ 0
+    → Fetches g (selected disk) (length disk) (length l.pieces) (length l.rbytes) (length l.rlens)
 unfolding chosen
-unmarked_may g disk l q c k e =
-    subst (λ (c : Choice). MayFetch g c (length disk) (length l.pieces) (length l.rbytes) (length l.rlens)) (sym e)
-    (record { may = may })
-  where
-    may : (chosen g disk q).no.number ≡ 0 → Fetches g (chosen g disk q).superblock (length disk) (length l.pieces) (length l.rbytes) (length l.rlens)
-    may h =
-        let f = slots_asked g (slot_read disk 0) (slot_read disk sector_size) q h in
-        record {
-          lent = image_asked g (length disk) (length l.pieces) (length l.rbytes) (length l.rlens) (k f.lent_asked);
-          formed = selected_formed g (sector_superblock (slot_read disk 0)) (sector_superblock (slot_read disk sector_size)) f.first_formed f.second_formed;
-        }
+unmarked_may g disk l q k h =
+    let f = slots_asked g (slot_read disk 0) (slot_read disk sector_size) q h in
+    record {
+      lent = image_asked g (length disk) (length l.pieces) (length l.rbytes) (length l.rlens) (k f.lent_asked);
+      formed = selected_formed g (sector_superblock (slot_read disk 0)) (sector_superblock (slot_read disk sector_size)) f.first_formed f.second_formed;
+    }
 
-pub marked_may : (g : Geometry) (disk : List ℕ) (l : Lent) (marks : List ℕ) (c d : Choice)
-    → MayFetch g c (length disk) (length l.pieces) (length l.rbytes) (length l.rlens) → d ≡ readable marks c
-    → MayFetch g d (length disk) (length l.pieces) (length l.rbytes) (length l.rlens)
-unfolding readable
-marked_may g disk l marks c d m e =
-    subst (λ (c : Choice). MayFetch g c (length disk) (length l.pieces) (length l.rbytes) (length l.rlens)) (sym e)
-    (record { may = may })
+-- question 1's number, alone and with the marks
+pub image_number : (g : Geometry) (disk pieces rbytes rlens : ℕ) (r : Result ⊤ Refusal) → r ≡ asked (ask_image g disk pieces rbytes rlens) → number_of r ≡ ask_image g disk pieces rbytes rlens
+unfolding ask_image ask_geometry
+image_number g disk pieces rbytes rlens r e = number_is _ r (small_then _ _ (small_ask 1 _ (omega arith)) (small_ask 1 _ (omega arith))) e
+
+pub marked_number : (g : Geometry) (disk pieces rbytes rlens : ℕ) (marks : List ℕ) (r : Result ⊤ Refusal)
+    → r ≡ asked (and_then (ask_image g disk pieces rbytes rlens) (ask_marks g marks)) → number_of r ≡ and_then (ask_image g disk pieces rbytes rlens) (ask_marks g marks)
+unfolding ask_image ask_geometry ask_marks
+marked_number g disk pieces rbytes rlens marks r e =
+    number_is _ r
+    (small_then _ _ (small_then _ _ (small_ask 1 _ (omega arith)) (small_ask 1 _ (omega arith))) (small_then _ _ (small_ask 1 _ (omega arith)) (small_ask 1 _ (omega arith)))) e
+
+-- an answer of questions, with its slot
+of_slot_is : {A : Type 0} (q slot : ℕ) (a : A) → of_slot (ok_unless q a) slot ≡ no_unless (refusal q slot) a
+of_slot_is {A = A} q slot a = go (eqb q 0)
   where
-    may : (readable marks c).no.number ≡ 0 → Fetches g (readable marks c).superblock (length disk) (length l.pieces) (length l.rbytes) (length l.rlens)
-    may h = m.may (no_left _ _ _ h)
+    go : (b : Bool) → of_slot (cond b (Ok a) (Err (answer.refusal q))) slot ≡ cond b (Ok a) (Err (refused (refusal q slot)))
+    go true = refl
+    go false = refl
+
+-- a no says the same of every value
+no_other : {A B : Type 0} (n : No) (v : A) (w : B) (e : Refused) → Err e ≡ no_unless n v → Err e ≡ no_unless n w
+no_other n v w e h = let f = choice_no n v e h in ap Err f.1 ∙ sym (asked_no n.number _ _ f.0)
+
+-- what the code finds in an interval is the record
+module _ (g : Geometry) (disk : List ℕ) (d : Choice) (r : Result Count Refusal) (hr : r ≡ found_in g disk d.superblock) where
+  as_no : of_slot r 0 ≡ no_unless (refusal (ask_parse g disk d.superblock) 0) (count_of (interval_entries g disk d.superblock))
+  as_no = ap (λ (k : Result Count Refusal). of_slot k 0) hr ∙ of_slot_is (ask_parse g disk d.superblock) 0 (count_of (interval_entries g disk d.superblock))
+
+  pub found_refused : (e : Refused) (x : Result Held Refused) → Err e ≡ of_slot r 0 → IsErrAnd x (λ (y : Refused). y ≡ e) → x ≡ held_in g disk d
+  found_refused e x h i =
+      let p = err_from_is_err_and x i in
+      p.1 ∙ ap Err p.2 ∙ no_other (refusal (ask_parse g disk d.superblock) 0) _ _ e (h ∙ as_no)
+
+  pub found_held : (c : Count) → Ok c ≡ of_slot r 0 → Ok (record { superblock = d.superblock; which = d.which; entries = c.entries; bytes = c.bytes }) ≡ held_in g disk d
+  found_held c h =
+      let f = choice_yes (refusal (ask_parse g disk d.superblock) 0) _ c (h ∙ as_no) in
+      (λ i. Ok (record { superblock = d.superblock; which = d.which; entries = (f.1 i).entries; bytes = (f.1 i).bytes })) ∙ sym (asked_yes (ask_parse g disk d.superblock) _ _ f.0)
+
+-- a choice's record: where it was refused, and where it is taken
+module _ (g : Geometry) (disk : List ℕ) (l : Lent) (c : Chosen) where
+  pub choice_refused : (e : Refused) (x : Result Held Refused) → Err e ≡ choice_of c → IsErrAnd x (λ (y : Refused). y ≡ e) → (x ≡ record_of g disk c) × (l ≡ record_lent g disk c l)
+  choice_refused e x h i =
+      let n = choice_no c.no _ e h in
+      let p = err_from_is_err_and x i in
+      (p.1 ∙ ap Err (p.2 ∙ n.1) ∙ record_refused g disk c l n.0, lent_refused g disk c l n.0)
+
+  -- and so with question 6 behind it
+  pub marked_refused : (marks : List ℕ) (e : Refused) (x : Result Held Refused) → Err e ≡ choice_of c → IsErrAnd x (λ (y : Refused). y ≡ e)
+      → (x ≡ record_of g disk (readable marks c)) × (l ≡ record_lent g disk (readable marks c) l)
+  marked_refused marks e x h i =
+      let r = choice_refused e x h i in
+      let k = readable_refused marks c (choice_no c.no _ e h).0 in
+      (r.0 ∙ ap (record_of g disk) k, r.1 ∙ ap (λ (d : Chosen). record_lent g disk d l) k)
+
+  module _ (d : Choice) (h : Ok d ≡ choice_of c) where
+    pub record_taken : (x : Result Held Refused) → x ≡ held_in g disk d → x ≡ record_of g disk c
+    record_taken x e = let f = choice_yes c.no _ d h in e ∙ ap (held_in g disk) f.1 ∙ record_found g disk c l f.0
+
+    pub lent_taken : (x : Lent) → x ≡ found_lent g disk d.superblock (pieces_after g disk d.superblock l.pieces) l → x ≡ record_lent g disk c l
+    lent_taken x e =
+        let f = choice_yes c.no _ d h in
+        lent_found g disk c l f.0 x (e ∙ ap (λ (k : Choice). found_lent g disk k.superblock (pieces_after g disk k.superblock l.pieces) l) f.1)
+
+    -- with question 6
+    module _ (marks : List ℕ) (a : Result ⊤ Refusal) (ha : a ≡ asked (ask_readable (interval_of d.superblock) marks)) where
+      asks : of_slot a 0 ≡ no_unless (readable marks c).no record {}
+      asks =
+          let f = choice_yes c.no _ d h in
+          ap (λ (k : Result ⊤ Refusal). of_slot k 0) (ha ∙ ap (λ (k : Choice). asked (ask_readable (interval_of k.superblock) marks)) f.1)
+          ∙ of_slot_is (ask_readable (interval_of c.superblock) marks) 0 record {}
+          ∙ ap (λ (k : Chosen). no_unless k.no record {}) (readable_asked marks c f.0 _ refl)
+
+      pub marks_refused : (e : Refused) → Err e ≡ of_slot a 0 → Err e ≡ choice_of (readable marks c)
+      marks_refused e k = no_other (readable marks c).no _ _ e (k ∙ asks)
+
+      pub marks_taken : (u : ⊤) → Ok u ≡ of_slot a 0 → Ok d ≡ choice_of (readable marks c)
+      unfolding readable
+      marks_taken u k =
+          let f = choice_yes c.no _ d h in
+          let m = choice_yes (readable marks c).no _ u (k ∙ asks) in
+          ap Ok f.1 ∙ sym (asked_yes (readable marks c).no.number _ _ m.0)
+
+-- the selected superblock's interval may be fetched
+pub taken_may : (g : Geometry) (disk : List ℕ) (l : Lent) (q : ℕ) (d : Choice) → (q ≡ 0 → ask_lent g disk l ≡ 0) → Ok d ≡ choice_of (chosen g disk q)
+    → Fetches g d.superblock (length disk) (length l.pieces) (length l.rbytes) (length l.rlens)
+unfolding chosen
+taken_may g disk l q d k h =
+    let f = choice_yes (chosen g disk q).no _ d h in
+    subst (λ (c : Choice). Fetches g c.superblock (length disk) (length l.pieces) (length l.rbytes) (length l.rlens)) (sym f.1) (unmarked_may g disk l q k f.0)

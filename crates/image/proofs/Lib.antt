@@ -1,1 +1,2 @@
+pub mod ChoosingLaws
 pub mod FoundLaws

@@ -1,9 +1,9 @@
 -- What a yes to the questions of an image tells: question 1, those of the slots and the choice between them, question 6.
-use Rattle.std.specs.Prelude.{ℕ, ◌+◌, ◌*◌, ◌≡◌, refl, List, take, drop}
+use Rattle.std.specs.Prelude.{ℕ, ◌+◌, ◌*◌, ◌≡◌, refl, List, Result, Ok, Err, IsErrAnd}
 use Rattle.std.proofs.Math.Path.{sym}
 use Rattle.std.proofs.Common.{◌∙◌, ap, arith}
 use borrow.Author.Tests.{eqb-true, eq-eqb}
-use Rattle.laws.specs.Choice.{also_left, also_right, also_both, and_then_left, and_then_right, and_then_both, ask_yes, ask_holds, by_eqb, asked_yes, asked_no}
+use Rattle.laws.specs.Choice.{also_left, also_right, also_both, and_then_left, and_then_right, and_then_both, ask_yes, ask_holds, by_eqb, asked_yes, asked_no, ruin}
 use Rattle.laws.specs.Cut.{lengths}
 use Rattle.layout.specs.declared.Geometry.{Geometry}
 use Rattle.layout.specs.Geometry.{ValidGeometry, geometry_asked, asked_geometry}
@@ -11,12 +11,12 @@ use Rattle.superblock.specs.declared.Superblock.{Superblock}
 use Rattle.superblock.specs.Superblock.{select_superblock, select_superblock_index}
 use Rattle.superblock.specs.Laws.{WFSuperblock, superblock_facts, facts_superblock}
 use Rattle.journal.specs.Memory.{ask_readable}
-use Rattle.sector.specs.declared.SectorRead.{SectorRead}
-use Rattle.sector.specs.declared.SectorRead.TheVariants as read
-use Rattle.sector.specs.Sector.{sector_size, ask_sector, superblock_in}
-use Rattle.image.specs.declared.Refusal.{Refusal}
-use Rattle.image.specs.declared.Choice.{Choice}
-use Rattle.image.specs.Image.{lent, slot_read, interval_of, sector_superblock, sector_number, image_lent, ask_image, refusal, first_no, ask_slots, selected, which, chosen, readable}
+use Rattle.std.proofs.lemmas.Result.{err_from_is_err_and}
+use Rattle.refusal.specs.Refusal.{asked, ok_unless, number, number_of, number_some, refusal_number, number_asked, unless_yes, unless_no}
+use Rattle.refusal.specs.declared.Refusal.{Refusal}
+use Rattle.sector.specs.Sector.{sector_size}
+use Rattle.image.specs.declared.Refused.{Refused}
+use Rattle.image.specs.Image.{of_slot, refused, no_unless, slot_read, interval_of, sector_superblock, image_lent, ask_image, No, refusal, first_no, ask_slots, Chosen, chosen, readable}
 
 -- the lent lengths
 pub record Imaged (g : Geometry) (disk pieces rbytes rlens : ℕ) : Type 0 where
@@ -52,32 +52,61 @@ module _ (g : Geometry) (disk pieces rbytes rlens : ℕ) where
       (also_both _ _ (eq-eqb rbytes (g.blocks * 4096) v.bytes_size) (eq-eqb rlens (g.blocks * 4096) v.lens_size)))))
 
 -- a first no, and a yes
-pub no_first : (q slot : ℕ) (next : Refusal) → (q ≡ 0 → ⊥) → first_no q slot next ≡ refusal q slot
+pub no_first : (q slot : ℕ) (next : No) → (q ≡ 0 → ⊥) → first_no q slot next ≡ refusal q slot
 unfolding first_no
 no_first q slot next h = asked_no q next (refusal q slot) h
 
-pub no_next : (q slot : ℕ) (next : Refusal) → q ≡ 0 → first_no q slot next ≡ next
+pub no_next : (q slot : ℕ) (next : No) → q ≡ 0 → first_no q slot next ≡ next
 unfolding first_no
 no_next q slot next h = asked_yes q next (refusal q slot) h
 
 -- nothing was refused exactly where neither was
-pub no_left : (q slot : ℕ) (next : Refusal) → (first_no q slot next).number ≡ 0 → q ≡ 0
+pub no_left : (q slot : ℕ) (next : No) → (first_no q slot next).number ≡ 0 → q ≡ 0
 unfolding first_no
 no_left q slot next =
-    by_eqb (λ (r : Refusal). r.number ≡ 0 → q ≡ 0) q 0 next (refusal q slot) (λ h e. h) (λ h e. e)
+    by_eqb (λ (r : No). r.number ≡ 0 → q ≡ 0) q 0 next (refusal q slot) (λ h e. h) (λ h e. e)
 
-pub no_right : (q slot : ℕ) (next : Refusal) → (first_no q slot next).number ≡ 0 → next.number ≡ 0
-no_right q slot next e = ap (λ (r : Refusal). r.number) (sym (no_next q slot next (no_left q slot next e))) ∙ e
+pub no_right : (q slot : ℕ) (next : No) → (first_no q slot next).number ≡ 0 → next.number ≡ 0
+no_right q slot next e = ap (λ (r : No). r.number) (sym (no_next q slot next (no_left q slot next e))) ∙ e
+
+-- what an answer tells that was taken apart
+pub choice_yes : {A : Type 0} (n : No) (v x : A) → Ok x ≡ no_unless n v → (n.number ≡ 0) × (x ≡ v)
+choice_yes n v x =
+    by_eqb (λ (r : Result _ Refused). Ok x ≡ r → (n.number ≡ 0) × (x ≡ v)) n.number 0 (Ok v) (Err (refused n))
+    (λ h e. (h, cc)) (λ h e. ruin (cc))
+
+pub choice_no : {A : Type 0} (n : No) (v : A) (e : Refused) → Err e ≡ no_unless n v → (n.number ≡ 0 → ⊥) × (e ≡ refused n)
+choice_no n v e =
+    by_eqb (λ (r : Result _ Refused). Err e ≡ r → (n.number ≡ 0 → ⊥) × (e ≡ refused n)) n.number 0 (Ok v) (Err (refused n))
+    (λ h k. ruin (cc)) (λ h k. (h, cc))
+
+-- at a `?` over an answer of a slot: its value, or its no, which is the first
+pub slot_yes : {A : Type 0} (r : Result A Refusal) (slot : ℕ) (v : A) → Ok v ≡ of_slot r slot → r ≡ Ok v
+slot_yes (Ok a) slot v h = let e : a ≡ v = cc in ap Ok e
+slot_yes (Err e) slot v h = ruin (cc)
+
+pub slot_no : {A B : Type 0} (r : Result A Refusal) (slot : ℕ) (e : Refused) (next : No) (w : B) (x : Result B Refused)
+    → Err e ≡ of_slot r slot → IsErrAnd x (λ (y : Refused). y ≡ e) → x ≡ no_unless (first_no (number_of r) slot next) w
+slot_no (Ok a) slot e next w x h i = ruin (cc)
+slot_no (Err n) slot e next w x h i =
+    let p = err_from_is_err_and x i in
+    p.1
+    ∙ ap Err (p.2 ∙ err_is ∙ (λ k. record { no = sym (refusal_number n) k; slot = slot }))
+    ∙ sym (asked_no (number n) _ _ (number_some n))
+    ∙ ap (λ (m : No). no_unless m w) (sym (no_first (number n) slot next (number_some n)))
+  where
+    err_is : e ≡ record { no = n; slot = slot }
+    err_is = cc
 
 -- what a yes of both slots tells
-pub record SlotsAsked (g : Geometry) (first second : SectorRead) (lent : ℕ) : Type 0 where
-  pub first_read : sector_number first ≡ 0
-  pub second_read : sector_number second ≡ 0
+pub record SlotsAsked (g : Geometry) (first second : Result Superblock Refusal) (lent : ℕ) : Type 0 where
+  pub first_read : number_of first ≡ 0
+  pub second_read : number_of second ≡ 0
   pub lent_asked : lent ≡ 0
   pub first_formed : WFSuperblock g (sector_superblock first)
   pub second_formed : WFSuperblock g (sector_superblock second)
 
-pub slots_asked : (g : Geometry) (first second : SectorRead) (lent : ℕ) → (ask_slots g first second lent).number ≡ 0 → SlotsAsked g first second lent
+pub slots_asked : (g : Geometry) (first second : Result Superblock Refusal) (lent : ℕ) → (ask_slots g first second lent).number ≡ 0 → SlotsAsked g first second lent
 unfolding ask_slots
 slots_asked g first second lent e =
     let e1 = no_right _ _ _ e in
@@ -93,18 +122,17 @@ slots_asked g first second lent e =
     }
 
 -- a sector that was not refused holds its superblock
-pub slot_holds_is : (disk : List ℕ) (at : ℕ) → sector_number (slot_read disk at) ≡ 0 → slot_read disk at ≡ read.Holds (sector_superblock (slot_read disk at))
-unfolding slot_read sector_number sector_superblock
-slot_holds_is disk at =
-    by_eqb (λ (r : SectorRead). sector_number r ≡ 0 → r ≡ read.Holds (sector_superblock r)) (ask_sector xs) 0 (read.Holds (superblock_in xs)) (read.Refused (ask_sector xs))
-    (λ h e. refl) (λ h e. absurd (h e))
-  where
-    xs : List ℕ
-    xs = take sector_size (drop at disk)
+holds_is : (r : Result Superblock Refusal) → number_of r ≡ 0 → r ≡ Ok (sector_superblock r)
+unfolding sector_superblock
+holds_is (Ok s) h = refl
+holds_is (Err e) h = absurd (number_some e h)
+
+pub slot_holds_is : (disk : List ℕ) (at : ℕ) → number_of (slot_read disk at) ≡ 0 → slot_read disk at ≡ Ok (sector_superblock (slot_read disk at))
+slot_holds_is disk at h = holds_is (slot_read disk at) h
 
 -- two well-formed superblocks are refused nothing
-pub slots_hold : (g : Geometry) (a b : Superblock) → WFSuperblock g a → WFSuperblock g b → ask_slots g (read.Holds a) (read.Holds b) 0 ≡ refusal 0 0
-unfolding ask_slots sector_number sector_superblock
+pub slots_hold : (g : Geometry) (a b : Superblock) → WFSuperblock g a → WFSuperblock g b → ask_slots g (Ok a) (Ok b) 0 ≡ refusal 0 0
+unfolding ask_slots sector_superblock
 slots_hold g a b f h =
     no_next _ _ _ refl
     ∙ no_next _ _ _ refl
@@ -118,7 +146,7 @@ unfolding select_superblock
 selected_formed g a b f h = by_eqb (WFSuperblock g) (select_superblock_index a b) 1 b a (λ e. h) (λ e. f)
 
 -- what the parts answer is the choice
-pub chosen_is : (g : Geometry) (disk : List ℕ) (q : ℕ) (a b : SectorRead) (n : Refusal) (s t x : Superblock) (w : ℕ) → a ≡ slot_read disk 0 → b ≡ slot_read disk sector_size → n ≡ ask_slots g a b q
+pub chosen_is : (g : Geometry) (disk : List ℕ) (q : ℕ) (a b : Result Superblock Refusal) (n : No) (s t x : Superblock) (w : ℕ) → a ≡ slot_read disk 0 → b ≡ slot_read disk sector_size → n ≡ ask_slots g a b q
     → s ≡ sector_superblock a → t ≡ sector_superblock b → w ≡ select_superblock_index s t → x ≡ select_superblock s t → record { no = n; superblock = x; which = w } ≡ chosen g disk q
 unfolding chosen
 chosen_is g disk q a b n s t x w ha hb hn hs ht hw hx =
@@ -130,12 +158,12 @@ chosen_is g disk q a b n s t x w ha hb hn hs ht hw hx =
     }
 
 -- the choice of two well-formed superblocks, after a yes to question 1
-pub chosen_holds : (g : Geometry) (disk : List ℕ) (a b : Superblock) → slot_read disk 0 ≡ read.Holds a → slot_read disk sector_size ≡ read.Holds b → WFSuperblock g a → WFSuperblock g b
+pub chosen_holds : (g : Geometry) (disk : List ℕ) (a b : Superblock) → slot_read disk 0 ≡ Ok a → slot_read disk sector_size ≡ Ok b → WFSuperblock g a → WFSuperblock g b
     → chosen g disk 0 ≡ record { no = refusal 0 0; superblock = select_superblock a b; which = select_superblock_index a b }
 unfolding sector_superblock
 chosen_holds g disk a b ha hb f h =
     sym
-    (chosen_is g disk 0 (read.Holds a) (read.Holds b) (refusal 0 0) a b (select_superblock a b) (select_superblock_index a b) (sym ha) (sym hb) (sym (slots_hold g a b f h)) refl refl refl
+    (chosen_is g disk 0 (Ok a) (Ok b) (refusal 0 0) a b (select_superblock a b) (select_superblock_index a b) (sym ha) (sym hb) (sym (slots_hold g a b f h)) refl refl refl
     refl)
 
 -- a choice that was not refused: nothing was refused of the slots
@@ -144,7 +172,7 @@ unfolding chosen
 chosen_asked g disk q e = slots_asked g (slot_read disk 0) (slot_read disk sector_size) q e
 
 -- question 6 is asked where nothing was refused before
-module _ (marks : List ℕ) (c : Choice) where
+module _ (marks : List ℕ) (c : Chosen) where
   pub readable_refused : (c.no.number ≡ 0 → ⊥) → c ≡ readable marks c
   unfolding readable
   readable_refused h = λ i. record { no = sym (no_first c.no.number c.no.slot (refusal (ask_readable (interval_of c.superblock) marks) 0) h) i; superblock = c.superblock; which = c.which }

@@ -1,4 +1,6 @@
 -- What was written reads back: the two superblocks, and the blocks.
+use Rattle.std.specs.Prelude.{None, Some, Ok, Err}
+use Rattle.std.specs.declared.option.Option as code
 use Rattle.std.specs.Prelude.{ℕ, ◌+◌, ◌*◌, ◌≡◌, refl, drop, replicate, eqb}
 use Rattle.std.proofs.Common.{sym, ◌∙◌, arith, eq-eqb, drop_at}
 use Rattle.std.proofs.Math.Path.{ap}
@@ -11,9 +13,7 @@ use Rattle.laws.specs.Part.{drop_end}
 use Rattle.laws.specs.Splice.{clipped, clipped_then, clipped_fits, splice_is}
 use Rattle.layout.specs.declared.Geometry.{Geometry}
 use Rattle.superblock.specs.declared.Superblock.{Superblock}
-use Rattle.superblock.specs.declared.MaybeSuperblock.{MaybeSuperblock}
-use Rattle.superblock.specs.declared.MaybeSuperblock.TheVariants as slot
-use Rattle.sector.specs.declared.SectorRead.TheVariants as read
+use Rattle.refusal.specs.declared.Refusal.TheVariants as no
 use Rattle.sector.specs.Answer.{read_sector}
 use Rattle.sector.specs.Laws.{length_sector_of}
 use Rattle.sector.specs.Round.{Fits, read_written, zeros_refused}
@@ -25,13 +25,13 @@ pub length_superblock : (s : Superblock) → length (encode_superblock s) ≡ se
 unfolding numbers_of
 length_superblock s = length_sector_of (numbers_of s) (omega arith)
 
-pub length_slot : (m : MaybeSuperblock) → length (slot_bytes m) ≡ sector_size
+pub length_slot : (m : code.Option Superblock) → length (slot_bytes m) ≡ sector_size
 unfolding slot_bytes
-length_slot (slot.Holds s) = length_superblock s
-length_slot slot.Empty = length-replicate {A = ℕ} sector_size 0
+length_slot (Some s) = length_superblock s
+length_slot None = length-replicate {A = ℕ} sector_size 0
 
 -- three runs, one behind the other, over the whole of an image
-pub written_runs : (g : Geometry) (first second : MaybeSuperblock) (blocks disk x y z : List ℕ) → ask_image g (length disk) (length blocks) (length blocks) (length blocks) ≡ 0
+pub written_runs : (g : Geometry) (first second : code.Option Superblock) (blocks disk x y z : List ℕ) → ask_image g (length disk) (length blocks) (length blocks) (length blocks) ≡ 0
     → x ≡ clipped disk 0 (slot_bytes first) → y ≡ clipped x sector_size (slot_bytes second) → z ≡ clipped y 8192 blocks
     → z ≡ unless (ask_image g (length disk) (length blocks) (length blocks) (length blocks)) disk (image_of first second blocks)
 unfolding image_of
@@ -67,7 +67,7 @@ written_runs g first second blocks disk x y z q hx hy hz =
     long : length (a ++ (b ++ blocks)) ≡ length disk
     long = omega (arith, length-append a (b ++ blocks), length-append b blocks, length_slot first, length_slot second, v.disk_size, v.pieces_size)
 
-module _ (first second : MaybeSuperblock) (blocks : List ℕ) where
+module _ (first second : code.Option Superblock) (blocks : List ℕ) where
   first_sector : take sector_size (image_of first second blocks) ≡ slot_bytes first
   unfolding image_of
   first_sector = take_at (slot_bytes first) (slot_bytes second ++ blocks) sector_size (length_slot first)
@@ -97,19 +97,19 @@ module _ (first second : MaybeSuperblock) (blocks : List ℕ) where
       heads : length (slot_bytes first ++ slot_bytes second) ≡ 8192
       heads = omega (arith, length-append (slot_bytes first) (slot_bytes second), length_slot first, length_slot second)
 
-pub held_written : (s : Superblock) → Fits s → read_sector (slot_bytes (slot.Holds s)) ≡ read.Holds s
+pub held_written : (s : Superblock) → Fits s → read_sector (slot_bytes (Some s)) ≡ Ok s
 unfolding slot_bytes
 held_written s f = read_written s f
 
-pub empty_written : read_sector (slot_bytes slot.Empty) ≡ read.Refused 10
+pub empty_written : read_sector (slot_bytes None) ≡ Err no.Contents
 unfolding slot_bytes
 empty_written = zeros_refused
 
 -- a sector of its length is written whole
-pub held_put : (s : Superblock) (xs : List ℕ) {y : List ℕ} → length xs ≡ sector_size → y ≡ unless (ask 10 (eqb (length xs) sector_size)) xs (encode_superblock s) → y ≡ slot_bytes (slot.Holds s)
+pub held_put : (s : Superblock) (xs : List ℕ) {y : List ℕ} → length xs ≡ sector_size → y ≡ unless (ask 10 (eqb (length xs) sector_size)) xs (encode_superblock s) → y ≡ slot_bytes (Some s)
 unfolding slot_bytes
 held_put s xs h e = e ∙ unless_done (ask 10 (eqb (length xs) sector_size)) xs (encode_superblock s) (ask_holds 10 (eqb (length xs) sector_size) (eq-eqb (length xs) sector_size h))
 
-pub empty_put : replicate sector_size 0 ≡ slot_bytes slot.Empty
+pub empty_put : replicate sector_size 0 ≡ slot_bytes None
 unfolding slot_bytes
 empty_put = refl

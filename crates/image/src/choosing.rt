@@ -1,81 +1,47 @@
-// What the two sectors come to: the first no, and the superblock that is selected.
+// What the two sectors come to: the superblock that is selected, or the first no.
 ghost use Rattle.std.specs.Prelude.{◌≡◌};
-ghost use Rattle.image.specs.Image.{ask_slots, chosen, readable};
+ghost use Rattle.refusal.specs.Refusal.{asked, number_of};
+ghost use Rattle.laws.specs.Choice.{ask};
+ghost use Rattle.superblock.specs.Superblock.{wf_superblock};
+ghost use Rattle.image.specs.Image.{chosen, choice_of, of_slot};
 
-use super::reading::{read_slot, sector_number, sector_superblock};
-use super::{Choice, Refusal};
-use interval::JournalInterval;
-use journal::ask_readable;
+use super::reading::read_slot;
+use super::{Choice, Refused};
 use layout::Geometry;
-use sector::{SECTOR_SIZE, SectorRead};
-use superblock::{select_superblock, select_superblock_index};
+use refusal::Refusal;
+use sector::SECTOR_SIZE;
+use superblock::{Superblock, select_superblock, select_superblock_index};
 
-// The first no: a sector's own, question 1's, and 2 where a superblock isn't well formed.
-pub(crate) fn ask_slots(g: Geometry, first: SectorRead, second: SectorRead, lent: u8) -> Refusal
-    ensures { result ≡ ask_slots g first second lent }
+// An answer with the slot of its no, 1 or 2; 0 where none is asked.
+pub(crate) fn of_slot<T>(answer: Result<T, Refusal>, slot: u8) -> Result<T, Refused>
+    ensures { result ≡ of_slot answer slot }
 {
-    let p = sector_number(first);
-    if p != 0 {
-        return Refusal { number: p, slot: 1 };
+    match answer {
+        Ok(value) => Ok(value),
+        Err(no) => Err(Refused { no, slot }),
     }
-    let q = sector_number(second);
-    if q != 0 {
-        return Refusal { number: q, slot: 2 };
-    }
-    if lent != 0 {
-        return Refusal {
-            number: lent,
-            slot: 0,
-        };
-    }
-    let s = sector_superblock(first);
-    let a = s.well_formed(g);
-    if !a {
-        return Refusal { number: 2, slot: 1 };
-    }
-    let t = sector_superblock(second);
-    let b = t.well_formed(g);
-    if !b {
-        return Refusal { number: 2, slot: 2 };
-    }
-    Refusal { number: 0, slot: 0 }
 }
 
-// The choice, `lent` being question 1's answer.
-pub(crate) fn choose(g: Geometry, disk: &[u8], lent: u8) -> Choice
-    ensures { result ≡ chosen g disk.now lent }
+// Question 2: is the superblock well formed?
+fn ask_formed(g: Geometry, s: Superblock) -> Result<(), Refusal>
+    ensures { result ≡ asked (ask 2 (wf_superblock g s)) }
 {
-    let first = read_slot(disk, 0);
-    let second = read_slot(disk, SECTOR_SIZE);
-    let no = ask_slots(g, first, second, lent);
-    let s = sector_superblock(first);
-    let t = sector_superblock(second);
+    if s.well_formed(g) {
+        return Ok(());
+    }
+    Err(Refusal::State)
+}
+
+// The choice, or the first no: a sector's own, question 1's, which `lent` answers, and 2 where a superblock isn't well formed.
+pub(crate) fn choose(g: Geometry, disk: &[u8], lent: Result<(), Refusal>) -> Result<Choice, Refused>
+    ensures { result ≡ choice_of (chosen g disk.now (number_of lent)) }
+{
+    let s = of_slot(read_slot(disk, 0), 1)?;
+    let t = of_slot(read_slot(disk, SECTOR_SIZE), 2)?;
+    of_slot(lent, 0)?;
+    of_slot(ask_formed(g, s), 1)?;
+    of_slot(ask_formed(g, t), 2)?;
     let which = select_superblock_index(s, t);
     let superblock = select_superblock(s, t);
-    Choice {
-        no,
-        superblock,
-        which,
-    }
-}
-
-// The same with question 6: can every block of the selected interval be read?
-pub(crate) fn ask_marked(c: Choice, marks: &[u8]) -> Choice
-    ensures { result ≡ readable marks.now c }
-{
-    let s = c.superblock;
-    let no = c.no;
-    if no.number != 0 {
-        return c;
-    }
-    let v = JournalInterval {
-        start: s.journalStart,
-        len: s.journalLen,
-    };
-    let q = ask_readable(v, marks);
-    Choice {
-        no: Refusal { number: q, slot: 0 },
-        superblock: s,
-        which: c.which,
-    }
+    Ok(Choice { superblock, which })
 }

@@ -1,18 +1,20 @@
 // The record of a disk.
 ghost use Rattle.std.specs.Prelude.{◌≡◌, length};
+ghost use Rattle.refusal.specs.Refusal.{asked};
 ghost use Rattle.laws.specs.Choice.{and_then};
 ghost use Rattle.laws.specs.Splice.{splice};
 ghost use Rattle.journal.specs.Memory.{ask_marks};
-ghost use Rattle.image.specs.Image.{before, after, unmarked, marked, interval_bytes, pieces_after, record_of, record_lent};
-ghost use Rattle.image.specs.Found.{Fetches, MayFetch, found_in, found_lent, held_by};
+ghost use Rattle.image.specs.Image.{ask_image, before, after, unmarked, marked, interval_bytes, pieces_after, record_of, record_lent};
+ghost use Rattle.image.specs.Found.{Fetches, found_in, found_lent, held_in};
 
-use super::choosing::{ask_marked, choose};
+use super::choosing::{choose, of_slot};
 use super::reading::ask_image;
-use super::{Choice, Recorded};
+use super::{Choice, Held, Refused};
 use interval::JournalInterval;
-use journal::{ask_marks, cyclic_slice_bytes};
+use journal::{ask_marks, ask_readable, cyclic_slice_bytes};
 use layout::Geometry;
-use reader::Scanned;
+use range::Count;
+use refusal::Refusal;
 use superblock::Superblock;
 use unpacker::unpack;
 
@@ -24,7 +26,7 @@ fn fetch_round(
     pieces: &mut [u8],
     rbytes: &mut [u8],
     rlens: &mut [u16],
-) -> Scanned
+) -> Result<Count, Refusal>
     requires { Fetches g s (length disk.now) (length pieces.old) (length rbytes.old) (length rlens.old) }
     ensures value { result ≡ found_in g disk.now s }
     ensures lent_after { after pieces rbytes rlens ≡ found_lent g disk.now s (splice pieces.old 0 (interval_bytes g disk.now s)) (before pieces rbytes rlens) }
@@ -40,8 +42,8 @@ fn fetch_round(
     unpack(&pieces[0..n], rbytes, rlens)
 }
 
-// The entries of a well-formed superblock's interval to replay memory; where it lies straight, from where it lies. A 7 where its blocks aren't
-// ranges to the last one.
+// The entries of a well-formed superblock's interval to replay memory; where it lies straight, from where it lies. Question 7 where its blocks
+// aren't ranges to the last one.
 fn fetch(
     g: Geometry,
     s: Superblock,
@@ -49,7 +51,7 @@ fn fetch(
     pieces: &mut [u8],
     rbytes: &mut [u8],
     rlens: &mut [u16],
-) -> Scanned
+) -> Result<Count, Refusal>
     requires { Fetches g s (length disk.now) (length pieces.old) (length rbytes.old) (length rlens.old) }
     ensures value { result ≡ found_in g disk.now s }
     ensures lent_after { after pieces rbytes rlens ≡ found_lent g disk.now s (pieces_after g disk.now s pieces.old) (before pieces rbytes rlens) }
@@ -62,32 +64,22 @@ fn fetch(
     fetch_round(g, s, disk, pieces, rbytes, rlens)
 }
 
-// The answer, from what was found.
-fn held(s: Superblock, which: u64, found: Scanned) -> Recorded
-    ensures { result ≡ held_by s which found }
+// Question 1 with the marks.
+fn ask_marked(
+    g: Geometry,
+    disk: usize,
+    marks: &[u8],
+    pieces: usize,
+    rbytes: usize,
+    rlens: usize,
+) -> Result<(), Refusal>
+    ensures { result ≡ asked (and_then (ask_image g disk pieces rbytes rlens) (ask_marks g marks.now)) }
 {
-    match found {
-        Scanned::Total { entries, bytes } => Recorded::Held {
-            superblock: s,
-            which: which,
-            entries: entries,
-            bytes: bytes,
-        },
-        Scanned::Refused(q) => Recorded::Refused { number: q, slot: 0 },
-    }
-}
-
-// Question 1 with the marks, `lent` being its answer without them.
-fn ask_lent_marks(g: Geometry, lent: u8, marks: &[u8]) -> u8
-    ensures { result ≡ and_then lent (ask_marks g marks.now) }
-{
-    if lent != 0 {
-        return lent;
-    }
+    ask_image(g, disk, pieces, rbytes, rlens)?;
     ask_marks(g, marks)
 }
 
-// The record by a choice that was made.
+// The record of a choice, or question 7 where the selected interval doesn't parse.
 fn record_chosen(
     g: Geometry,
     c: Choice,
@@ -95,21 +87,18 @@ fn record_chosen(
     pieces: &mut [u8],
     rbytes: &mut [u8],
     rlens: &mut [u16],
-) -> Recorded
-    requires { MayFetch g c (length disk.now) (length pieces.old) (length rbytes.old) (length rlens.old) }
-    ensures value { result ≡ record_of g disk.now c }
-    ensures lent_after { after pieces rbytes rlens ≡ record_lent g disk.now c (before pieces rbytes rlens) }
+) -> Result<Held, Refused>
+    requires { Fetches g c.superblock (length disk.now) (length pieces.old) (length rbytes.old) (length rlens.old) }
+    ensures value { result ≡ held_in g disk.now c }
+    ensures lent_after { after pieces rbytes rlens ≡ found_lent g disk.now c.superblock (pieces_after g disk.now c.superblock pieces.old) (before pieces rbytes rlens) }
 {
-    let no = c.no;
-    if no.number != 0 {
-        return Recorded::Refused {
-            number: no.number,
-            slot: no.slot,
-        };
-    }
-    let s = c.superblock;
-    let found = fetch(g, s, disk, pieces, rbytes, rlens);
-    held(s, c.which, found)
+    let found = of_slot(fetch(g, c.superblock, disk, pieces, rbytes, rlens), 0)?;
+    Ok(Held {
+        superblock: c.superblock,
+        which: c.which,
+        entries: found.entries,
+        bytes: found.bytes,
+    })
 }
 
 // The record of a disk: what a load of it comes to. The entries of the selected superblock's interval lie in replay memory, bodies back to
@@ -120,16 +109,16 @@ pub fn record(
     pieces: &mut [u8],
     rbytes: &mut [u8],
     rlens: &mut [u16],
-) -> Recorded
+) -> Result<Held, Refused>
     ensures value { result ≡ record_of g disk.now (unmarked g disk.now (before pieces rbytes rlens)) }
     ensures lent_after { after pieces rbytes rlens ≡ record_lent g disk.now (unmarked g disk.now (before pieces rbytes rlens)) (before pieces rbytes rlens) }
 {
-    let q = ask_image(g, disk.len(), pieces.len(), rbytes.len(), rlens.len());
-    let c = choose(g, disk, q);
+    let lent = ask_image(g, disk.len(), pieces.len(), rbytes.len(), rlens.len());
+    let c = choose(g, disk, lent)?;
     record_chosen(g, c, disk, pieces, rbytes, rlens)
 }
 
-// The same by a caller who knows which blocks can be read, N marks: 6 where a block of the selected interval can't.
+// The same by a caller who knows which blocks can be read, N marks: question 6 where a block of the selected interval can't.
 pub fn record_marked(
     g: Geometry,
     disk: &[u8],
@@ -137,13 +126,23 @@ pub fn record_marked(
     pieces: &mut [u8],
     rbytes: &mut [u8],
     rlens: &mut [u16],
-) -> Recorded
+) -> Result<Held, Refused>
     ensures value { result ≡ record_of g disk.now (marked g disk.now marks.now (before pieces rbytes rlens)) }
     ensures lent_after { after pieces rbytes rlens ≡ record_lent g disk.now (marked g disk.now marks.now (before pieces rbytes rlens)) (before pieces rbytes rlens) }
 {
-    let lent = ask_image(g, disk.len(), pieces.len(), rbytes.len(), rlens.len());
-    let q = ask_lent_marks(g, lent, marks);
-    let first = choose(g, disk, q);
-    let c = ask_marked(first, marks);
+    let lent = ask_marked(
+        g,
+        disk.len(),
+        marks,
+        pieces.len(),
+        rbytes.len(),
+        rlens.len(),
+    );
+    let c = choose(g, disk, lent)?;
+    let v = JournalInterval {
+        start: c.superblock.journalStart,
+        len: c.superblock.journalLen,
+    };
+    of_slot(ask_readable(v, marks), 0)?;
     record_chosen(g, c, disk, pieces, rbytes, rlens)
 }

@@ -2,9 +2,9 @@
 -- a block; so an empty one overlaps nothing. Where neither is empty it is the source's overlap, and what overlaps here overlaps there.
 use Rattle.std.specs.Prelude.{ℕ, ◌+◌, ◌-◌, ◌≤◌, ◌<◌, max, Bool, false, cond, ◌≡◌, refl, ◌⊎◌, ◌↔◌, ltb}
 use Rattle.std.proofs.Math.Bool.{true}
-use Rattle.std.proofs.Common.{sym, ◌∙◌, ap, inr, ⊎_elim, arith, lt-ltb, ltb-true}
+use Rattle.std.proofs.Common.{sym, ◌∙◌, inr, ⊎_elim, arith, lt-ltb, ltb-true}
 use Rattle.std.proofs.Math.Logic.{inl}
-use Rattle.laws.specs.Choice.{also, also_left, also_right, also_false, also_both, also_comm, either_left, either_right, either_cases, by_ltb, true_false, not_so}
+use Rattle.laws.specs.Choice.{also, also_left, also_right, also_both, also_comm, either_left, either_right, either_cases, by_ltb, true_false, not_so}
 use Rattle.layout.specs.declared.Geometry.{Geometry}
 use Rattle.interval.specs.declared.JournalInterval.{JournalInterval}
 use Rattle.interval.specs.Interval.{interval}

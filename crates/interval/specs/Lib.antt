@@ -1,4 +1,3 @@
-pub mod Answer
 pub mod Interval
 pub mod Overlap
 pub mod Journal

@@ -1,45 +1,40 @@
 // Intervals of the journal's ring: which are valid, their parts, the point after one.
 ghost use Rattle.std.specs.Prelude.{◌≡◌, ◌+◌, ◌-◌, ◌≤◌, leb, ltb};
+ghost use Rattle.refusal.specs.Refusal.{ok_unless, asked};
 ghost use Rattle.laws.specs.Choice.{also};
-ghost use Rattle.layout.specs.Answer.{decided, positioned};
+ghost use Rattle.laws.specs.Optional.{optional};
 ghost use Rattle.layout.specs.Geometry.{ask_geometry, ValidGeometry};
 ghost use Rattle.layout.specs.Journal.{ask_journal_location};
-ghost use Rattle.interval.specs.Answer.{spanned_by, maybe_interval, maybe_spanned};
 ghost use Rattle.interval.specs.Facts.{ValidJournalInterval};
 ghost use Rattle.interval.specs.Interval.{valid_journal_interval, contiguous_journal_interval, in_cyclic_range, journal_front_interval, journal_back_interval, subinterval, next_start_point, concat_intervals, journal_interval_of_location, ask_interval, ask_intervals, ask_in_row, ask_block};
 
-use super::{JournalInterval, MaybeInterval, MaybeSpanned, Spanned};
-use layout::{Decision, Geometry, Location, Position};
+use super::JournalInterval;
+use layout::{Geometry, Location};
+use refusal::Refusal;
 
 impl JournalInterval {
     // Questions 1 and 4, of one interval.
-    pub fn ask(self, g: Geometry) -> u8
-        ensures { result ≡ ask_interval g self }
+    pub fn ask(self, g: Geometry) -> Result<(), Refusal>
+        ensures { result ≡ asked (ask_interval g self) }
     {
-        let q = g.ask();
-        if q != 0 {
-            return q;
-        }
+        g.ask()?;
         let b = self.valid(g);
         if b {
-            return 0;
+            return Ok(());
         }
-        4
+        Err(Refusal::Argument)
     }
 
     // Questions 1 and 4, of two.
-    pub fn ask_both(self, other: JournalInterval, g: Geometry) -> u8
-        ensures { result ≡ ask_intervals g self other }
+    pub fn ask_both(self, other: JournalInterval, g: Geometry) -> Result<(), Refusal>
+        ensures { result ≡ asked (ask_intervals g self other) }
     {
-        let q = self.ask(g);
-        if q != 0 {
-            return q;
-        }
+        self.ask(g)?;
         let b = other.valid(g);
         if b {
-            return 0;
+            return Ok(());
         }
-        4
+        Err(Refusal::Argument)
     }
 
     // A start below N and a len of at most N?
@@ -64,27 +59,21 @@ impl JournalInterval {
     }
 
     // `valid`, after question 1.
-    pub fn valid_journal_interval(self, g: Geometry) -> Decision
-        ensures { result ≡ decided (ask_geometry g) (valid_journal_interval g self) }
+    pub fn valid_journal_interval(self, g: Geometry) -> Result<bool, Refusal>
+        ensures { result ≡ ok_unless (ask_geometry g) (valid_journal_interval g self) }
     {
-        let q = g.ask();
-        if q != 0 {
-            return Decision::Refused(q);
-        }
+        g.ask()?;
         let b = self.valid(g);
-        Decision::Is(b)
+        Ok(b)
     }
 
     // `contiguous`, after question 1.
-    pub fn contiguous_journal_interval(self, g: Geometry) -> Decision
-        ensures { result ≡ decided (ask_geometry g) (contiguous_journal_interval g self) }
+    pub fn contiguous_journal_interval(self, g: Geometry) -> Result<bool, Refusal>
+        ensures { result ≡ ok_unless (ask_geometry g) (contiguous_journal_interval g self) }
     {
-        let q = g.ask();
-        if q != 0 {
-            return Decision::Refused(q);
-        }
+        g.ask()?;
         let b = self.contiguous(g);
-        Decision::Is(b)
+        Ok(b)
     }
 
     // Do the blocks up to the interval's end hold x, counted without going round?
@@ -98,106 +87,85 @@ impl JournalInterval {
     }
 
     // Is block i in the interval?
-    pub fn in_cyclic_range(self, g: Geometry, i: u64) -> Decision
-        ensures { result ≡ decided (ask_block g i self) (in_cyclic_range g i self) }
+    pub fn in_cyclic_range(self, g: Geometry, i: u64) -> Result<bool, Refusal>
+        ensures { result ≡ ok_unless (ask_block g i self) (in_cyclic_range g i self) }
     {
-        let q = self.ask_block(g, i);
-        if q != 0 {
-            return Decision::Refused(q);
-        }
+        self.ask_block(g, i)?;
         let a = self.holds(i);
         let b = self.holds(i + g.blocks);
-        Decision::Is(a | b)
+        Ok(a | b)
     }
 
     // Questions 1 and 4, of an interval and a block.
-    fn ask_block(self, g: Geometry, i: u64) -> u8
-        ensures { result ≡ ask_block g i self }
+    fn ask_block(self, g: Geometry, i: u64) -> Result<(), Refusal>
+        ensures { result ≡ asked (ask_block g i self) }
     {
-        let q = self.ask(g);
-        if q != 0 {
-            return q;
-        }
+        self.ask(g)?;
         if i < g.blocks {
-            return 0;
+            return Ok(());
         }
-        4
+        Err(Refusal::Argument)
     }
 
     // How many blocks the ring has from the start on: none where the start lies past its end.
     pub(crate) fn to_end(self, g: Geometry) -> u64
         ensures { result ≡ g.blocks - self.start }
     {
-        if g.blocks <= self.start {
-            return 0;
-        }
-        g.blocks - self.start
+        g.blocks.saturating_sub(self.start)
     }
 
     // The part up to the ring's end.
-    pub fn front(self, g: Geometry) -> MaybeInterval
-        ensures { result ≡ maybe_interval (journal_front_interval g self.start self.len) }
+    pub fn front(self, g: Geometry) -> Option<JournalInterval>
+        ensures { result ≡ optional (journal_front_interval g self.start self.len) }
     {
         if self.len == 0 {
-            return MaybeInterval::Nothing;
+            return None;
         }
         let left = self.to_end(g);
         if self.len <= left {
-            return MaybeInterval::Is(JournalInterval {
+            return Some(JournalInterval {
                 start: self.start,
                 len: self.len,
             });
         }
-        MaybeInterval::Is(JournalInterval {
+        Some(JournalInterval {
             start: self.start,
             len: left,
         })
     }
 
     // The part from the ring's first block on, where the interval passes the end.
-    pub fn back(self, g: Geometry) -> MaybeInterval
-        ensures { result ≡ maybe_interval (journal_back_interval g self.start self.len) }
+    pub fn back(self, g: Geometry) -> Option<JournalInterval>
+        ensures { result ≡ optional (journal_back_interval g self.start self.len) }
     {
         if self.len == 0 {
-            return MaybeInterval::Nothing;
+            return None;
         }
         let left = self.to_end(g);
         if self.len <= left {
-            return MaybeInterval::Nothing;
+            return None;
         }
-        MaybeInterval::Is(JournalInterval {
+        Some(JournalInterval {
             start: 0,
             len: self.len - left,
         })
     }
 
     // `front` and `back`, after questions 1 and 4.
-    pub fn journal_front_interval(self, g: Geometry) -> MaybeSpanned
-        ensures { result ≡ maybe_spanned (ask_interval g self) (journal_front_interval g self.start self.len) }
+    pub fn journal_front_interval(self, g: Geometry) -> Result<Option<JournalInterval>, Refusal>
+        ensures { result ≡ ok_unless (ask_interval g self) (optional (journal_front_interval g self.start self.len)) }
     {
-        let q = self.ask(g);
-        if q != 0 {
-            return MaybeSpanned::Refused(q);
-        }
+        self.ask(g)?;
         let part = self.front(g);
-        let MaybeInterval::Is(v) = part else {
-            return MaybeSpanned::Nothing;
-        };
-        MaybeSpanned::Is(v)
+        Ok(part)
     }
 
-    pub fn journal_back_interval(self, g: Geometry) -> MaybeSpanned
-        ensures { result ≡ maybe_spanned (ask_interval g self) (journal_back_interval g self.start self.len) }
+    pub fn journal_back_interval(self, g: Geometry) -> Result<Option<JournalInterval>, Refusal>
+        ensures { result ≡ ok_unless (ask_interval g self) (optional (journal_back_interval g self.start self.len)) }
     {
-        let q = self.ask(g);
-        if q != 0 {
-            return MaybeSpanned::Refused(q);
-        }
+        self.ask(g)?;
         let part = self.back(g);
-        let MaybeInterval::Is(v) = part else {
-            return MaybeSpanned::Nothing;
-        };
-        MaybeSpanned::Is(v)
+        Ok(part)
     }
 
     // Does an interval that begins at `start` and has this one's len lie within `other`, counted without going round?
@@ -211,16 +179,13 @@ impl JournalInterval {
     }
 
     // Does it lie within `other`, as it stands or once round?
-    pub fn subinterval(self, other: JournalInterval, g: Geometry) -> Decision
-        ensures { result ≡ decided (ask_intervals g self other) (subinterval g self other) }
+    pub fn subinterval(self, other: JournalInterval, g: Geometry) -> Result<bool, Refusal>
+        ensures { result ≡ ok_unless (ask_intervals g self other) (subinterval g self other) }
     {
-        let q = self.ask_both(other, g);
-        if q != 0 {
-            return Decision::Refused(q);
-        }
+        self.ask_both(other, g)?;
         let a = self.lies_in(self.start, other);
         let b = self.lies_in(self.start + g.blocks, other);
-        Decision::Is(a | b)
+        Ok(a | b)
     }
 
     // The block after the interval.
@@ -234,55 +199,47 @@ impl JournalInterval {
         self.start + self.len - g.blocks
     }
 
-    pub fn next_start_point(self, g: Geometry) -> Position
-        ensures { result ≡ positioned (ask_interval g self) (next_start_point g self) }
+    pub fn next_start_point(self, g: Geometry) -> Result<u64, Refusal>
+        ensures { result ≡ ok_unless (ask_interval g self) (next_start_point g self) }
     {
-        let q = self.ask(g);
-        if q != 0 {
-            return Position::Refused(q);
-        }
+        self.ask(g)?;
         let p = self.next(g);
-        Position::At(p)
+        Ok(p)
     }
 
     // Questions 1 and 4, of two intervals in a row: the second begins at the block after the first.
-    fn ask_in_row(self, other: JournalInterval, g: Geometry) -> u8
-        ensures { result ≡ ask_in_row g self other }
+    fn ask_in_row(self, other: JournalInterval, g: Geometry) -> Result<(), Refusal>
+        ensures { result ≡ asked (ask_in_row g self other) }
     {
-        let q = self.ask_both(other, g);
-        if q != 0 {
-            return q;
-        }
+        self.ask_both(other, g)?;
         let p = self.next(g);
         if p == other.start {
-            return 0;
+            return Ok(());
         }
-        4
+        Err(Refusal::Argument)
     }
 
     // Two intervals in a row as one. Its len is the sum, which may pass N as in the source.
-    pub fn concat_intervals(self, other: JournalInterval, g: Geometry) -> Spanned
-        ensures { result ≡ spanned_by (ask_in_row g self other) (concat_intervals self other) }
+    pub fn concat_intervals(
+        self,
+        other: JournalInterval,
+        g: Geometry,
+    ) -> Result<JournalInterval, Refusal>
+        ensures { result ≡ ok_unless (ask_in_row g self other) (concat_intervals self other) }
     {
-        let q = self.ask_in_row(other, g);
-        if q != 0 {
-            return Spanned::Refused(q);
-        }
-        Spanned::Is(JournalInterval {
+        self.ask_in_row(other, g)?;
+        Ok(JournalInterval {
             start: self.start,
             len: self.len + other.len,
         })
     }
 
     // The blocks of a journal location.
-    pub fn of_location(g: Geometry, loc: Location) -> Spanned
-        ensures { result ≡ spanned_by (ask_journal_location g loc) (journal_interval_of_location loc) }
+    pub fn of_location(g: Geometry, loc: Location) -> Result<JournalInterval, Refusal>
+        ensures { result ≡ ok_unless (ask_journal_location g loc) (journal_interval_of_location loc) }
     {
-        let q = layout::ask_journal_location(g, loc);
-        if q != 0 {
-            return Spanned::Refused(q);
-        }
-        Spanned::Is(JournalInterval {
+        layout::ask_journal_location(g, loc)?;
+        Ok(JournalInterval {
             start: (loc.addr - Geometry::JOURNAL_START_ADDR) / Geometry::BLOCK_SIZE,
             len: loc.len / Geometry::BLOCK_SIZE,
         })

@@ -1,38 +1,26 @@
 // Overlap of intervals: plain, of two that do not pass the ring's end, and cyclic, of any two. An empty interval overlaps nothing; where neither is
 // empty, the tests are the source's, named `source_..` here.
-ghost use Rattle.std.specs.Prelude.{◌≡◌, ◌+◌, ◌-◌, ltb};
-ghost use Rattle.layout.specs.Answer.{decided};
+ghost use Rattle.std.specs.Prelude.{◌≡◌, ◌+◌, ltb};
+ghost use Rattle.refusal.specs.Refusal.{ok_unless, asked};
 ghost use Rattle.interval.specs.Interval.{ask_intervals, ask_contiguous};
 ghost use Rattle.interval.specs.Overlap.{source_interval_overlap, source_overlap_parts, source_cyclic_interval_overlap, neither_empty, journal_interval_overlap, journal_cyclic_interval_overlap};
 
 use super::JournalInterval;
-use layout::{Decision, Geometry};
-
-// a less b, cut at 0.
-fn less(a: u64, b: u64) -> u64
-    ensures { result ≡ a - b }
-{
-    if a <= b {
-        return 0;
-    }
-    a - b
-}
+use layout::Geometry;
+use refusal::Refusal;
 
 impl JournalInterval {
     // Questions 1 and 4, of two contiguous intervals.
-    fn ask_contiguous(self, other: JournalInterval, g: Geometry) -> u8
-        ensures { result ≡ ask_contiguous g self other }
+    fn ask_contiguous(self, other: JournalInterval, g: Geometry) -> Result<(), Refusal>
+        ensures { result ≡ asked (ask_contiguous g self other) }
     {
-        let q = g.ask();
-        if q != 0 {
-            return q;
-        }
+        g.ask()?;
         let a = self.contiguous(g);
         let b = other.contiguous(g);
         if a & b {
-            return 0;
+            return Ok(());
         }
-        4
+        Err(Refusal::Argument)
     }
 
     // Does it end after block x, counted without going round? Told by a difference, so that no sum can wrap.
@@ -81,7 +69,7 @@ impl JournalInterval {
             start: self.start,
             len: left,
         };
-        let rest = less(self.len, left);
+        let rest = self.len.saturating_sub(left);
         let back = JournalInterval {
             start: 0,
             len: rest,
@@ -119,26 +107,28 @@ impl JournalInterval {
     }
 
     // Do two contiguous intervals overlap?
-    pub fn journal_interval_overlap(self, other: JournalInterval, g: Geometry) -> Decision
-        ensures { result ≡ decided (ask_contiguous g self other) (journal_interval_overlap self other) }
+    pub fn journal_interval_overlap(
+        self,
+        other: JournalInterval,
+        g: Geometry,
+    ) -> Result<bool, Refusal>
+        ensures { result ≡ ok_unless (ask_contiguous g self other) (journal_interval_overlap self other) }
     {
-        let q = self.ask_contiguous(other, g);
-        if q != 0 {
-            return Decision::Refused(q);
-        }
+        self.ask_contiguous(other, g)?;
         let b = self.meets(other);
-        Decision::Is(b)
+        Ok(b)
     }
 
     // `overlaps`, after questions 1 and 4.
-    pub fn journal_cyclic_interval_overlap(self, other: JournalInterval, g: Geometry) -> Decision
-        ensures { result ≡ decided (ask_intervals g self other) (journal_cyclic_interval_overlap g self other) }
+    pub fn journal_cyclic_interval_overlap(
+        self,
+        other: JournalInterval,
+        g: Geometry,
+    ) -> Result<bool, Refusal>
+        ensures { result ≡ ok_unless (ask_intervals g self other) (journal_cyclic_interval_overlap g self other) }
     {
-        let q = self.ask_both(other, g);
-        if q != 0 {
-            return Decision::Refused(q);
-        }
+        self.ask_both(other, g)?;
         let b = self.overlaps(other, g);
-        Decision::Is(b)
+        Ok(b)
     }
 }

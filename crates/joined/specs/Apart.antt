@@ -1,5 +1,7 @@
 -- The slots, and journal writes in flight: both slots hold a well-formed superblock; the rows in use overlap neither each other nor the
 -- interval of the superblock that is selected.
+use Rattle.std.specs.Prelude.{None, Some}
+use Rattle.std.specs.declared.option.Option as code
 use Rattle.std.specs.Prelude.{Bool, true, false, not, List, [], ◌∷◌, take}
 use Rattle.laws.specs.Choice.{also}
 use Rattle.laws.specs.Fold.{every}
@@ -8,16 +10,14 @@ use Rattle.interval.specs.declared.JournalInterval.{JournalInterval}
 use Rattle.interval.specs.Interval.{interval}
 use Rattle.interval.specs.Overlap.{journal_interval_overlap, journal_cyclic_interval_overlap}
 use Rattle.superblock.specs.declared.Superblock.{Superblock}
-use Rattle.superblock.specs.declared.MaybeSuperblock.{MaybeSuperblock}
-use Rattle.superblock.specs.declared.MaybeSuperblock.TheVariants as slot
 use Rattle.superblock.specs.Superblock.{select_superblock, wf_superblock}
 use Rattle.tables.specs.declared.IntervalTable.{IntervalTable}
-use Rattle.requests.specs.declared.Slots.{Slots}
+use Rattle.requests.specs.Slots.{Slots}
 
 -- both slots
-abbrev pub slot_wf : Geometry → MaybeSuperblock → Bool
-slot_wf g (slot.Holds s) = wf_superblock g s
-slot_wf g slot.Empty = false
+abbrev pub slot_wf : Geometry → code.Option Superblock → Bool
+slot_wf g (Some s) = wf_superblock g s
+slot_wf g None = false
 
 unfoldable pub slots_wf : Geometry → Slots → Bool
 slots_wf g s =
@@ -47,10 +47,10 @@ rows_clear g v t = every (clear_of g v) (take t.count t.intervals)
 abbrev pub selected_interval : Superblock → Superblock → JournalInterval
 selected_interval superblock1 superblock2 = interval (select_superblock superblock1 superblock2).journalStart (select_superblock superblock1 superblock2).journalLen
 
-abbrev pub clear_by : Geometry → MaybeSuperblock → MaybeSuperblock → IntervalTable → Bool
-clear_by g (slot.Holds s1) (slot.Holds s2) t = rows_clear g (selected_interval s1 s2) t
-clear_by g (slot.Holds s1) slot.Empty t = false
-clear_by g slot.Empty second t = false
+abbrev pub clear_by : Geometry → code.Option Superblock → code.Option Superblock → IntervalTable → Bool
+clear_by g (Some s1) (Some s2) t = rows_clear g (selected_interval s1 s2) t
+clear_by g (Some s1) None t = false
+clear_by g None second t = false
 
 unfoldable pub writes_clear : Geometry → Slots → IntervalTable → Bool
 writes_clear g s t = clear_by g s.first s.second t

@@ -1,8 +1,9 @@
 -- What a machine awaits, in the form in which the disk holds it. What its kind lacks, it does not await.
+use Rattle.interval.specs.declared.JournalInterval.{JournalInterval}
+use Rattle.std.specs.Prelude.{None, Some}
+use Rattle.std.specs.declared.option.Option as code
 use Rattle.std.specs.Prelude.{ℕ}
 use Rattle.layout.specs.declared.Geometry.{Geometry}
-use Rattle.interval.specs.declared.MaybeInterval.{MaybeInterval}
-use Rattle.interval.specs.declared.MaybeInterval.TheVariants as interval
 use Rattle.tables.specs.declared.IdTable.{IdTable}
 use Rattle.tables.specs.IdTable.{no_ids, added_id}
 use Rattle.loading.specs.declared.SlotRead.{SlotRead}
@@ -18,13 +19,9 @@ use Rattle.ready.specs.declared.Ready.{Ready}
 use Rattle.ready.specs.State.{commit_slot}
 use Rattle.machine.specs.declared.Machine.{Machine}
 use Rattle.machine.specs.Machine.{by_kind}
-use Rattle.requests.specs.declared.SuperblockReads.{SuperblockReads}
+use Rattle.requests.specs.Slots.{SuperblockReads, SuperblockWrites, put_slot, writing}
 use Rattle.requests.specs.declared.SuperblockWrite.{SuperblockWrite}
-use Rattle.requests.specs.declared.SuperblockWrite.TheVariants as write
-use Rattle.requests.specs.declared.SuperblockWrites.{SuperblockWrites}
-use Rattle.requests.specs.Slots.{put_write}
 use Rattle.joined.specs.declared.AwaitedRead.{AwaitedRead}
-use Rattle.joined.specs.declared.AwaitedRead.TheVariants as read
 use Rattle.joined.specs.declared.AwaitedReads.{AwaitedReads}
 use Rattle.joined.specs.declared.Awaited.{Awaited}
 
@@ -36,14 +33,17 @@ slot_ids (slot.Success superblock) = no_ids
 slot_ids slot.Corruption = no_ids
 
 -- a piece's read, of the interval that the superblock gives it
-abbrev pub read_under : ℕ → MaybeInterval → AwaitedRead
-read_under id (interval.Is v) = read.Reading id v
-read_under id interval.Nothing = read.NoRead
+abbrev pub reading : ℕ → JournalInterval → code.Option AwaitedRead
+reading id v = Some (record { id = id; interval = v })
 
-abbrev pub piece_awaited : Piece → MaybeInterval → AwaitedRead
-piece_awaited piece.Unread v = read.NoRead
+abbrev pub read_under : ℕ → code.Option JournalInterval → code.Option AwaitedRead
+read_under id (Some v) = reading id v
+read_under id None = None
+
+abbrev pub piece_awaited : Piece → code.Option JournalInterval → code.Option AwaitedRead
+piece_awaited piece.Unread v = None
 piece_awaited (piece.Reading id) v = read_under id v
-piece_awaited piece.In v = read.NoRead
+piece_awaited piece.In v = None
 
 unfoldable pub pieces_awaited : Geometry → LoadingOther → AwaitedReads
 pieces_awaited g s =
@@ -53,22 +53,22 @@ pieces_awaited g s =
     }
 
 -- a commit's superblock write, to the slot that the machine does not stand on
-abbrev pub commit_write : Commit → SuperblockWrite
-commit_write commit.CommitNone = write.NoWrite
-commit_write (commit.CommitAdvanceLog id new) = write.Writing id new
-commit_write (commit.CommitAdvanceLocation id new) = write.Writing id new
+abbrev pub commit_write : Commit → code.Option SuperblockWrite
+commit_write commit.CommitNone = None
+commit_write (commit.CommitAdvanceLog id new) = writing id new
+commit_write (commit.CommitAdvanceLocation id new) = writing id new
 
 abbrev pub no_reads : SuperblockReads
 no_reads = record { first = no_ids; second = no_ids }
 
 abbrev pub no_pieces : AwaitedReads
-no_pieces = record { front = read.NoRead; back = read.NoRead }
+no_pieces = record { front = None; back = None }
 
 abbrev pub no_writes : SuperblockWrites
-no_writes = record { first = write.NoWrite; second = write.NoWrite }
+no_writes = record { first = None; second = None }
 
 unfoldable pub commit_writes : ℕ → Commit → SuperblockWrites
-commit_writes which c = put_write no_writes which (commit_write c)
+commit_writes which c = put_slot no_writes which (commit_write c)
 
 -- by kind
 unfoldable pub superblocks_await : LoadingSuperblock → Awaited

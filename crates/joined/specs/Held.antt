@@ -1,21 +1,19 @@
 -- The disk holds exactly what is awaited: the same ids, each with its slot, interval or new superblock.
+use Rattle.std.specs.Prelude.{None, Some}
+use Rattle.std.specs.declared.option.Option as code
 use Rattle.std.specs.Prelude.{Bool, true, false, eqb, take}
 use Rattle.laws.specs.Choice.{also}
 use Rattle.interval.specs.declared.JournalInterval.{JournalInterval}
 use Rattle.superblock.specs.Superblock.{same_superblock}
 use Rattle.tables.specs.declared.IdTable.{IdTable}
 use Rattle.tables.specs.declared.IntervalTable.{IntervalTable}
-use Rattle.tables.specs.declared.Held.{Held}
-use Rattle.tables.specs.declared.Held.TheVariants as held
 use Rattle.tables.specs.Rows.{same_ids}
 use Rattle.tables.specs.IdTable.{no_ids, added_id}
-use Rattle.tables.specs.IntervalTable.{interval_map, held_of}
-use Rattle.requests.specs.declared.SuperblockReads.{SuperblockReads}
+use Rattle.laws.specs.Optional.{optional}
+use Rattle.tables.specs.IntervalTable.{interval_map}
+use Rattle.requests.specs.Slots.{SuperblockReads, SuperblockWrites}
 use Rattle.requests.specs.declared.SuperblockWrite.{SuperblockWrite}
-use Rattle.requests.specs.declared.SuperblockWrite.TheVariants as write
-use Rattle.requests.specs.declared.SuperblockWrites.{SuperblockWrites}
 use Rattle.joined.specs.declared.AwaitedRead.{AwaitedRead}
-use Rattle.joined.specs.declared.AwaitedRead.TheVariants as read
 use Rattle.joined.specs.declared.AwaitedReads.{AwaitedReads}
 
 -- superblock reads, slot by slot
@@ -33,17 +31,17 @@ same_interval v w =
     also (eqb v.start w.start)
     (eqb v.len w.len)
 
-abbrev pub read_is : Held → JournalInterval → Bool
-read_is (held.Is w) v = same_interval v w
-read_is held.Nothing v = false
+abbrev pub read_is : code.Option JournalInterval → JournalInterval → Bool
+read_is (Some w) v = same_interval v w
+read_is None v = false
 
-abbrev pub read_held : IntervalTable → AwaitedRead → Bool
-read_held t (read.Reading id v) = read_is (held_of (interval_map t id)) v
-read_held t read.NoRead = true
+abbrev pub read_held : IntervalTable → code.Option AwaitedRead → Bool
+read_held t (Some r) = read_is (optional (interval_map t r.id)) r.interval
+read_held t None = true
 
-abbrev pub read_added : IdTable → AwaitedRead → IdTable
-read_added ids (read.Reading id v) = added_id ids id
-read_added ids read.NoRead = ids
+abbrev pub read_added : IdTable → code.Option AwaitedRead → IdTable
+read_added ids (Some r) = added_id ids r.id
+read_added ids None = ids
 
 unfoldable pub read_ids : AwaitedReads → IdTable
 read_ids reads = read_added (read_added no_ids reads.front) reads.back
@@ -55,11 +53,11 @@ same_journal_reads awaited t =
     (read_held t awaited.back))
 
 -- superblock writes, slot by slot: none, or the same id and superblock
-abbrev pub same_write : SuperblockWrite → SuperblockWrite → Bool
-same_write (write.Writing id s) (write.Writing other t) = also (eqb id other) (same_superblock s t)
-same_write (write.Writing id s) write.NoWrite = false
-same_write write.NoWrite (write.Writing other t) = false
-same_write write.NoWrite write.NoWrite = true
+abbrev pub same_write : code.Option SuperblockWrite → code.Option SuperblockWrite → Bool
+same_write (Some a) (Some b) = also (eqb a.id b.id) (same_superblock a.superblock b.superblock)
+same_write (Some a) None = false
+same_write None (Some b) = false
+same_write None None = true
 
 unfoldable pub same_writes : SuperblockWrites → SuperblockWrites → Bool
 same_writes awaited held =

@@ -3,7 +3,7 @@ ghost use Rattle.std.specs.Prelude.{◌≡◌};
 ghost use Rattle.joined.specs.Awaited.{slot_ids, read_under, piece_awaited, pieces_awaited, commit_write, no_reads, no_pieces, no_writes, commit_writes, superblocks_await, other_awaits, ready_awaits, awaited_by};
 
 use super::{Awaited, AwaitedRead, AwaitedReads};
-use interval::MaybeInterval;
+use interval::JournalInterval;
 use layout::Geometry;
 use loading::{LoadingOther, LoadingSuperblock, Piece, SlotRead};
 use machine::{Kind, Machine};
@@ -25,42 +25,36 @@ fn slot_ids(slot: SlotRead) -> IdTable
 }
 
 // A read of a piece; none where the superblock's interval has no such piece.
-fn read_under(id: u64, v: MaybeInterval) -> AwaitedRead
+fn read_under(id: u64, v: Option<JournalInterval>) -> Option<AwaitedRead>
     ensures { result ≡ read_under id v }
 {
-    match v {
-        MaybeInterval::Is(i) => AwaitedRead::Reading {
-            id: id,
-            interval: i,
-        },
-        MaybeInterval::Nothing => AwaitedRead::NoRead,
-    }
+    v.map(|interval| AwaitedRead { id, interval })
 }
 
-fn piece_awaited(piece: Piece, v: MaybeInterval) -> AwaitedRead
+fn piece_awaited(piece: Piece, v: Option<JournalInterval>) -> Option<AwaitedRead>
     ensures { result ≡ piece_awaited piece v }
 {
     match piece {
-        Piece::Unread => AwaitedRead::NoRead,
+        Piece::Unread => None,
         Piece::Reading(id) => read_under(id, v),
-        Piece::In => AwaitedRead::NoRead,
+        Piece::In => None,
     }
 }
 
 // The superblock write of a commit in flight.
-fn commit_write(commit: Commit) -> SuperblockWrite
+fn commit_write(commit: Commit) -> Option<SuperblockWrite>
     ensures { result ≡ commit_write commit }
 {
     match commit {
-        Commit::CommitNone => SuperblockWrite::NoWrite,
-        Commit::CommitAdvanceLog { id: k, new: s } => SuperblockWrite::Writing {
-            id: k,
-            superblock: s,
-        },
-        Commit::CommitAdvanceLocation { id: k, new: s } => SuperblockWrite::Writing {
-            id: k,
-            superblock: s,
-        },
+        Commit::CommitNone => None,
+        Commit::CommitAdvanceLog {
+            id,
+            new: superblock,
+        } => Some(SuperblockWrite { id, superblock }),
+        Commit::CommitAdvanceLocation {
+            id,
+            new: superblock,
+        } => Some(SuperblockWrite { id, superblock }),
     }
 }
 
@@ -78,8 +72,8 @@ fn no_pieces() -> AwaitedReads
     ensures { result ≡ no_pieces }
 {
     AwaitedReads {
-        front: AwaitedRead::NoRead,
-        back: AwaitedRead::NoRead,
+        front: None,
+        back: None,
     }
 }
 
@@ -87,8 +81,8 @@ fn no_writes() -> SuperblockWrites
     ensures { result ≡ no_writes }
 {
     SuperblockWrites {
-        first: SuperblockWrite::NoWrite,
-        second: SuperblockWrite::NoWrite,
+        first: None,
+        second: None,
     }
 }
 
@@ -96,30 +90,21 @@ fn no_writes() -> SuperblockWrites
 fn commit_writes(slot: u64, commit: Commit) -> SuperblockWrites
     ensures { result ≡ commit_writes slot commit }
 {
-    let write = commit_write(commit);
-    let none = no_writes();
-    none.put(slot, write)
+    no_writes().put(slot, commit_write(commit))
 }
 
 fn superblocks_await(superblocks: LoadingSuperblock) -> Awaited
     ensures { result ≡ superblocks_await superblocks }
 {
-    let slot1 = superblocks.first;
-    let slot2 = superblocks.second;
-    let first = slot_ids(slot1);
-    let second = slot_ids(slot2);
     let reads = SuperblockReads {
-        first: first,
-        second: second,
+        first: slot_ids(superblocks.first),
+        second: slot_ids(superblocks.second),
     };
-    let pieces = no_pieces();
-    let writes = no_writes();
-    let none = IdTable::empty();
     Awaited {
         superblockReads: reads,
-        journalReads: pieces,
-        superblockWrites: writes,
-        journalWrites: none,
+        journalReads: no_pieces(),
+        superblockWrites: no_writes(),
+        journalWrites: IdTable::empty(),
     }
 }
 
@@ -128,66 +113,41 @@ fn pieces_awaited(g: Geometry, other: LoadingOther) -> AwaitedReads
     ensures { result ≡ pieces_awaited g other }
 {
     let s = other.superblock;
-    let piece1 = other.front;
-    let piece2 = other.back;
-    let v1 = s.front(g);
-    let v2 = s.back(g);
-    let front = piece_awaited(piece1, v1);
-    let back = piece_awaited(piece2, v2);
     AwaitedReads {
-        front: front,
-        back: back,
+        front: piece_awaited(other.front, s.front(g)),
+        back: piece_awaited(other.back, s.back(g)),
     }
 }
 
 fn other_awaits(g: Geometry, other: LoadingOther) -> Awaited
     ensures { result ≡ other_awaits g other }
 {
-    let pieces = pieces_awaited(g, other);
-    let reads = no_reads();
-    let writes = no_writes();
-    let none = IdTable::empty();
     Awaited {
-        superblockReads: reads,
-        journalReads: pieces,
-        superblockWrites: writes,
-        journalWrites: none,
+        superblockReads: no_reads(),
+        journalReads: pieces_awaited(g, other),
+        superblockWrites: no_writes(),
+        journalWrites: IdTable::empty(),
     }
 }
 
 fn ready_awaits(ready: Ready) -> Awaited
     ensures { result ≡ ready_awaits ready }
 {
-    let slot = ready.commit_slot();
-    let commit = ready.commit;
-    let outstanding = ready.writes;
-    let writes = commit_writes(slot, commit);
-    let reads = no_reads();
-    let pieces = no_pieces();
+    let writes = commit_writes(ready.commit_slot(), ready.commit);
     Awaited {
-        superblockReads: reads,
-        journalReads: pieces,
+        superblockReads: no_reads(),
+        journalReads: no_pieces(),
         superblockWrites: writes,
-        journalWrites: outstanding,
+        journalWrites: ready.writes,
     }
 }
 
 pub(crate) fn awaited_by(g: Geometry, m: Machine) -> Awaited
     ensures { result ≡ awaited_by g m }
 {
-    let kind = m.kind;
-    match kind {
-        Kind::LoadingSuperblock => {
-            let superblocks = m.superblocks;
-            superblocks_await(superblocks)
-        }
-        Kind::LoadingOther => {
-            let other = m.other;
-            other_awaits(g, other)
-        }
-        Kind::Ready => {
-            let ready = m.ready;
-            ready_awaits(ready)
-        }
+    match m.kind {
+        Kind::LoadingSuperblock => superblocks_await(m.superblocks),
+        Kind::LoadingOther => other_awaits(g, m.other),
+        Kind::Ready => ready_awaits(m.ready),
     }
 }

@@ -16,21 +16,14 @@ pub fn joined(g: Geometry, m: Machine, d: Disk) -> bool
     ensures { result ≡ joined_ok g m d }
 {
     let a = awaited_by(g, m);
-    let superblock_reads = a.superblockReads;
-    let journal_reads = a.journalReads;
-    let superblock_writes = a.superblockWrites;
-    let journal_writes = a.journalWrites;
-    let slots = d.slots;
-    let reads = d.superblockReads;
-    let pieces = d.journalReads;
-    let commits = d.superblockWrites;
-    let writes = d.journalWrites;
-    let a1 = slots_wf(g, slots);
-    let a2 = same_reads(superblock_reads, reads);
-    let a3 = same_journal_reads(journal_reads, pieces);
-    let a4 = same_writes(superblock_writes, commits);
-    let a5 = same_ids(journal_writes, writes);
-    let a6 = writes_apart(writes);
-    let a7 = writes_clear(g, slots, writes);
-    a1 & (a2 & (a3 & (a4 & (a5 & (a6 & a7)))))
+    let slots = slots_wf(g, d.slots);
+    let superblock_reads = same_reads(a.superblockReads, d.superblockReads);
+    let journal_reads = same_journal_reads(a.journalReads, d.journalReads);
+    let superblock_writes = same_writes(a.superblockWrites, d.superblockWrites);
+    let journal_writes = same_ids(a.journalWrites, d.journalWrites);
+    let apart = writes_apart(d.journalWrites);
+    let clear = writes_clear(g, d.slots, d.journalWrites);
+    slots
+        & (superblock_reads
+            & (journal_reads & (superblock_writes & (journal_writes & (apart & clear)))))
 }

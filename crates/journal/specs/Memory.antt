@@ -1,6 +1,6 @@
 -- The journal in lent memory: document 01's "Disk" lends N blocks of 4,096 bytes and N marks (1 readable, 0 not). Source 002's slices and
 -- updates over it, one for bytes and one for marks, and the questions that they ask.
-use Rattle.std.specs.Prelude.{ℕ, ◌*◌, Bool, cond, List, eqb, leb, length, take, drop, replicate}
+use Rattle.std.specs.Prelude.{ℕ, ◌*◌, Bool, List, eqb, leb, length, take, drop, replicate}
 use Rattle.laws.specs.Choice.{also, ask, and_then}
 use Rattle.laws.specs.Fold.{every}
 use Rattle.laws.specs.Splice.{clipped}
@@ -9,8 +9,6 @@ use Rattle.layout.specs.declared.Geometry.{Geometry}
 use Rattle.layout.specs.Geometry.{num_journal_blocks, ask_geometry}
 use Rattle.interval.specs.declared.JournalInterval.{JournalInterval}
 use Rattle.interval.specs.Interval.{ask_interval}
-use Rattle.journal.specs.declared.Copied.{Copied}
-use Rattle.journal.specs.declared.Copied.TheVariants as copied
 
 -- a mark is 0 or 1, and 1 where the block is readable
 unfoldable pub is_mark : ℕ → Bool
@@ -71,7 +69,3 @@ ask_full g v marks = and_then (ask_marks g marks) (ask_interval g v)
 
 unfoldable pub ask_update : Geometry → JournalInterval → List ℕ → List ℕ → List ℕ → ℕ
 ask_update g v new blocks marks = and_then (ask_journal g blocks marks) (and_then (ask_interval g v) (ask_size v new))
-
--- the answer: how many blocks, or the refusal number
-abbrev pub copied_of : ℕ → ℕ → Copied
-copied_of q n = cond (eqb q 0) (copied.Blocks n) (copied.Refused q)

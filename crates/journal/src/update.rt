@@ -1,20 +1,21 @@
 // An interval's blocks written: their bytes, their marks, and both after the questions.
 ghost use Rattle.std.specs.Prelude.{◌≡◌};
+ghost use Rattle.refusal.specs.Refusal.{asked, ok_unless};
 ghost use Rattle.laws.specs.Choice.{unless};
-ghost use Rattle.journal.specs.Memory.{update_bytes, update_marks, ask_update, copied_of};
+ghost use Rattle.journal.specs.Memory.{update_bytes, update_marks, ask_update};
 
-use super::Copied;
 use super::questions::{ask_journal, ask_size};
 use super::size::bytes_of;
 use interval::JournalInterval;
 use layout::Geometry;
+use refusal::Refusal;
 
 // `new` from the interval's first block on, going round once at most; a start past the ring is its first block. It asks nothing.
 pub fn write_blocks(v: JournalInterval, new: &[u8], blocks: &mut [u8])
     ensures { blocks.new ≡ update_bytes blocks.old v new.now }
 {
     let at = bytes_of(v.start, blocks.len());
-    runs::write_bytes_around(new, blocks, at);
+    runs::write_around(new, blocks, at);
 }
 
 // The marks of the interval's blocks become 1. It asks nothing.
@@ -24,17 +25,17 @@ pub fn set_marks(v: JournalInterval, marks: &mut [u8])
     runs::fill_around(1, v.len as usize, marks, v.start as usize);
 }
 
-fn ask_update(g: Geometry, v: JournalInterval, new: &[u8], blocks: &[u8], marks: &[u8]) -> u8
-    ensures { result ≡ ask_update g v new.now blocks.now marks.now }
+fn ask_update(
+    g: Geometry,
+    v: JournalInterval,
+    new: &[u8],
+    blocks: &[u8],
+    marks: &[u8],
+) -> Result<(), Refusal>
+    ensures { result ≡ asked (ask_update g v new.now blocks.now marks.now) }
 {
-    let q = ask_journal(g, blocks, marks);
-    if q != 0 {
-        return q;
-    }
-    let p = v.ask(g);
-    if p != 0 {
-        return p;
-    }
+    ask_journal(g, blocks, marks)?;
+    v.ask(g)?;
     ask_size(v, new)
 }
 
@@ -45,16 +46,13 @@ pub fn journal_update(
     new: &[u8],
     blocks: &mut [u8],
     marks: &mut [u8],
-) -> Copied
-    ensures value { result ≡ copied_of (ask_update g v new.now blocks.old marks.old) v.len }
+) -> Result<u64, Refusal>
+    ensures value { result ≡ ok_unless (ask_update g v new.now blocks.old marks.old) v.len }
     ensures blocks_after { blocks.new ≡ unless (ask_update g v new.now blocks.old marks.old) blocks.old (update_bytes blocks.old v new.now) }
     ensures marks_after { marks.new ≡ unless (ask_update g v new.now blocks.old marks.old) marks.old (update_marks marks.old v) }
 {
-    let q = ask_update(g, v, new, blocks, marks);
-    if q != 0 {
-        return Copied::Refused(q);
-    }
+    ask_update(g, v, new, blocks, marks)?;
     write_blocks(v, new, blocks);
     set_marks(v, marks);
-    Copied::Blocks(v.len)
+    Ok(v.len)
 }

@@ -5,6 +5,7 @@ use Rattle.std.specs.Prelude.{Bool, true, false, ◌≡◌, eqb, length, take, d
 use Rattle.std.proofs.Math.Path.{refl, sym, ap}
 use Rattle.std.proofs.Common.{◌∙◌, add-zero, zero-add, add_assoc, add_comm, mul-suc, zero-mul, suc-mul, arith, eq-eqb, eqb-true, take-append-drop, drop-drop}
 use mathlib.Core.List.{List, [], ◌∷◌, ◌++◌}
+use Rattle.std.specs.List.{fold}
 use Rattle.laws.specs.Choice.{also, also_left, also_right, also_both, also_assoc, also_true, false_true, not_so}
 use Rattle.laws.specs.Part.{drop_step, take_step, drop_end}
 
@@ -218,3 +219,9 @@ every_same p q [] (y ∷ ys) d e h f = absurd (omega arith)
 every_same p q (x ∷ xs) [] d e h f = absurd (omega arith)
 every_same p q (x ∷ xs) (y ∷ ys) d e h f =
     λ i. also (f 0 (omega arith) i) (every_same p q xs ys d e (omega arith) (λ j k. f (suc j) (omega arith)) i)
+
+-- an accumulator that keeps whether all was well so far
+pub every_fold : {A : Type 0} (p : A → Bool) (b : Bool) (xs : List A) → fold (λ (c : Bool) (x : A). also c (p x)) b xs ≡ also b (every p xs)
+unfolding every
+every_fold p b [] = sym (also_true b)
+every_fold p b (x ∷ xs) = every_fold p (also b (p x)) xs ∙ also_assoc b (p x) (every p xs)

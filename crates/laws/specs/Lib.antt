@@ -1,4 +1,5 @@
 pub mod Choice
+pub mod Optional
 pub mod Part
 pub mod Splice
 pub mod Fold
@@ -9,5 +10,6 @@ pub mod LowFirst
 pub mod Ring
 pub mod Around
 pub mod Sets
+pub mod Chains
 pub mod Least
 pub mod Maps

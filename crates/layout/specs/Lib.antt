@@ -1,5 +1,4 @@
 pub mod Geometry
-pub mod Answer
 pub mod Location
 pub mod Journal
 pub mod Laws

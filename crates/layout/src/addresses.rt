@@ -1,10 +1,11 @@
 // The fixed sizes and addresses of a disk with N journal blocks and tables of at most T bytes.
 ghost use Rattle.std.specs.Prelude.{◌≡◌, ◌≤◌, eqb};
-ghost use Rattle.layout.specs.Answer.{addressed};
+ghost use Rattle.refusal.specs.Refusal.{ok_unless, asked};
 ghost use Rattle.layout.specs.Geometry.{ask_geometry, ValidGeometry, indirection_table1_addr, indirection_table2_addr, journal_end_addr, journal_point, other_indirection_table_addr};
 ghost use Rattle.layout.specs.Journal.{ask_point};
 
-use super::{Address, Geometry};
+use super::Geometry;
+use refusal::Refusal;
 
 impl Geometry {
     pub const BLOCK_SIZE: u64 = 4096;
@@ -19,37 +20,34 @@ impl Geometry {
 
     pub const JOURNAL_START_ADDR: u64 = 8192;
 
-    // Question 1, of N and T: 0, or 1 where one of them is out of range.
-    pub fn ask(self) -> u8
-        ensures { result ≡ ask_geometry self }
+    // Question 1, of N and T: are both in range?
+    pub fn ask(self) -> Result<(), Refusal>
+        ensures { result ≡ asked (ask_geometry self) }
     {
         if self.blocks < 1 {
-            return 1;
+            return Err(Refusal::Sizes);
         }
         if Self::MOST_BLOCKS < self.blocks {
-            return 1;
+            return Err(Refusal::Sizes);
         }
         if self.table < 1 {
-            return 1;
+            return Err(Refusal::Sizes);
         }
         if Self::MOST_TABLE < self.table {
-            return 1;
+            return Err(Refusal::Sizes);
         }
-        0
+        Ok(())
     }
 
     // Questions 1 and 4, of a point of the journal, 0 to N.
-    fn ask_point(self, point: u64) -> u8
-        ensures { result ≡ ask_point self point }
+    fn ask_point(self, point: u64) -> Result<(), Refusal>
+        ensures { result ≡ asked (ask_point self point) }
     {
-        let q = self.ask();
-        if q != 0 {
-            return q;
-        }
+        self.ask()?;
         if self.blocks < point {
-            return 4;
+            return Err(Refusal::Argument);
         }
-        0
+        Ok(())
     }
 
     // The address of a point.
@@ -98,64 +96,49 @@ impl Geometry {
         self.is_table1(addr - self.table)
     }
 
-    pub fn indirection_table1_addr(self) -> Address
-        ensures { result ≡ addressed (ask_geometry self) (indirection_table1_addr self) }
+    pub fn indirection_table1_addr(self) -> Result<u64, Refusal>
+        ensures { result ≡ ok_unless (ask_geometry self) (indirection_table1_addr self) }
     {
-        let q = self.ask();
-        if q != 0 {
-            return Address::Refused(q);
-        }
+        self.ask()?;
         let addr = self.table1();
-        Address::At(addr)
+        Ok(addr)
     }
 
-    pub fn indirection_table2_addr(self) -> Address
-        ensures { result ≡ addressed (ask_geometry self) (indirection_table2_addr self) }
+    pub fn indirection_table2_addr(self) -> Result<u64, Refusal>
+        ensures { result ≡ ok_unless (ask_geometry self) (indirection_table2_addr self) }
     {
-        let q = self.ask();
-        if q != 0 {
-            return Address::Refused(q);
-        }
+        self.ask()?;
         let addr = self.table2();
-        Address::At(addr)
+        Ok(addr)
     }
 
     // The table address that `addr` is not; table 1 for any other address.
-    pub fn other_indirection_table_addr(self, addr: u64) -> Address
-        ensures { result ≡ addressed (ask_geometry self) (other_indirection_table_addr self addr) }
+    pub fn other_indirection_table_addr(self, addr: u64) -> Result<u64, Refusal>
+        ensures { result ≡ ok_unless (ask_geometry self) (other_indirection_table_addr self addr) }
     {
-        let q = self.ask();
-        if q != 0 {
-            return Address::Refused(q);
-        }
+        self.ask()?;
         let first = self.table1();
         let second = self.table2();
         if addr == first {
-            return Address::At(second);
+            return Ok(second);
         }
-        Address::At(first)
+        Ok(first)
     }
 
-    pub fn journal_end_addr(self) -> Address
-        ensures { result ≡ addressed (ask_geometry self) (journal_end_addr self) }
+    pub fn journal_end_addr(self) -> Result<u64, Refusal>
+        ensures { result ≡ ok_unless (ask_geometry self) (journal_end_addr self) }
     {
-        let q = self.ask();
-        if q != 0 {
-            return Address::Refused(q);
-        }
+        self.ask()?;
         let addr = self.table1();
-        Address::At(addr)
+        Ok(addr)
     }
 
     // The address of a point of the journal, 0 to N.
-    pub fn journal_point(self, point: u64) -> Address
-        ensures { result ≡ addressed (ask_point self point) (journal_point self point) }
+    pub fn journal_point(self, point: u64) -> Result<u64, Refusal>
+        ensures { result ≡ ok_unless (ask_point self point) (journal_point self point) }
     {
-        let q = self.ask_point(point);
-        if q != 0 {
-            return Address::Refused(q);
-        }
+        self.ask_point(point)?;
         let addr = self.point(point);
-        Address::At(addr)
+        Ok(addr)
     }
 }

@@ -2,9 +2,9 @@
 //   Geometry                 N and T, the fixed sizes and addresses, question 1
 //   Location                 a byte address and a length; which locations are valid, overlap, lie within one another
 //   the journal's locations  of a range, of the front and the back of a circular range; positions on the ring
-// Every function is total. One that needs a geometry or a bounded argument answers by an enum: the value, or the refusal number
-// of question 1 or 4. `Location::valid_table` is the bare test, exact for any geometry.
-#![tactic(auto)]
+// Every function is total. One that needs a geometry or a bounded argument answers the value, or the refusal of question 1 or 4.
+// `Location::valid_table` is the bare test, exact for any geometry.
+#![tactic(auto, using(refusal::specs::Refusal::questions, laws::specs::Choice::tests, crate::specs::Laws::circular_asked, crate::specs::Laws::range_asked, crate::specs::Geometry::geometry_asked), unfolding(laws::specs::Choice::and_then, laws::specs::Choice::ask, laws::specs::Choice::also, laws::specs::Choice::either, crate::specs::Journal::ask_circular, crate::specs::Journal::ask_range, crate::specs::Journal::ask_point, crate::specs::Journal::ask_journal_location, crate::specs::Journal::journal_front_location, crate::specs::Journal::journal_back_location, crate::specs::Journal::journal_pos_add, crate::specs::Geometry::ask_geometry, crate::specs::Geometry::geometry_ok, crate::specs::Geometry::other_indirection_table_addr, crate::specs::Location::valid_indirection_table_addr, crate::specs::Location::whole_blocks, crate::specs::Location::valid_indirection_table_location, crate::specs::Location::same_location, crate::specs::Location::valid_superblock1_location, crate::specs::Location::valid_superblock2_location, crate::specs::Location::valid_superblock_location, crate::specs::Location::overlap, crate::specs::Location::location_sub))]
 
 mod addresses;
 mod journal;
@@ -26,44 +26,8 @@ pub struct Geometry {
 }
 
 // A byte address and a length. Any two 64-bit numbers make one.
-#[derive(Clone, Copy)]
+#[derive(Clone, Copy, PartialEq, Eq)]
 pub struct Location {
     pub addr: u64,
     pub len: u64,
-}
-
-// The answers: the value asked for, or the number of the question that was answered no. Here a byte address.
-#[derive(Clone, Copy)]
-pub enum Address {
-    At(u64),
-    Refused(u8),
-}
-
-// A number of a journal block.
-#[derive(Clone, Copy)]
-pub enum Position {
-    At(u64),
-    Refused(u8),
-}
-
-// A test.
-#[derive(Clone, Copy)]
-pub enum Decision {
-    Is(bool),
-    Refused(u8),
-}
-
-// A location.
-#[derive(Clone, Copy)]
-pub enum Located {
-    At(Location),
-    Refused(u8),
-}
-
-// A location, or none where there is nothing to locate.
-#[derive(Clone, Copy)]
-pub enum MaybeLocated {
-    At(Location),
-    Nowhere,
-    Refused(u8),
 }

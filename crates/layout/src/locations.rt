@@ -1,10 +1,11 @@
 // Which locations are valid, overlap, lie within one another. Sums here never wrap.
 ghost use Rattle.std.specs.Prelude.{◌≡◌, ◌+◌, leb, ltb};
-ghost use Rattle.layout.specs.Answer.{decided};
+ghost use Rattle.refusal.specs.Refusal.{ok_unless, asked};
 ghost use Rattle.layout.specs.Geometry.{ask_geometry, ValidGeometry};
 ghost use Rattle.layout.specs.Location.{valid_indirection_table_addr, whole_blocks, valid_journal_location, valid_indirection_table_location, superblock1_location, superblock2_location, same_location, valid_superblock1_location, valid_superblock2_location, valid_superblock_location, valid_location, overlap, location_sub};
 
-use super::{Decision, Geometry, Location};
+use super::{Geometry, Location};
+use refusal::Refusal;
 
 impl Location {
     pub fn superblock1() -> Location
@@ -48,10 +49,7 @@ impl Location {
     pub fn same(self, other: Location) -> bool
         ensures { result ≡ same_location self other }
     {
-        if self.addr == other.addr {
-            return self.len == other.len;
-        }
-        false
+        self == other
     }
 
     pub fn valid_superblock1_location(self) -> bool
@@ -153,55 +151,43 @@ impl Location {
     }
 
     // Is `addr` the address of one of the two tables?
-    pub fn valid_indirection_table_addr(g: Geometry, addr: u64) -> Decision
-        ensures { result ≡ decided (ask_geometry g) (valid_indirection_table_addr g addr) }
+    pub fn valid_indirection_table_addr(g: Geometry, addr: u64) -> Result<bool, Refusal>
+        ensures { result ≡ ok_unless (ask_geometry g) (valid_indirection_table_addr g addr) }
     {
-        let q = g.ask();
-        if q != 0 {
-            return Decision::Refused(q);
-        }
+        g.ask()?;
         let loc = Location { addr, len: 0 };
         let b = loc.at_table(g);
-        Decision::Is(b)
+        Ok(b)
     }
 
     // The same after question 1.
-    pub fn valid_indirection_table_location(self, g: Geometry) -> Decision
-        ensures { result ≡ decided (ask_geometry g) (valid_indirection_table_location g self) }
+    pub fn valid_indirection_table_location(self, g: Geometry) -> Result<bool, Refusal>
+        ensures { result ≡ ok_unless (ask_geometry g) (valid_indirection_table_location g self) }
     {
-        let q = g.ask();
-        if q != 0 {
-            return Decision::Refused(q);
-        }
+        g.ask()?;
         let b = self.valid_table(g);
-        Decision::Is(b)
+        Ok(b)
     }
 
     // Is it whole blocks of the journal?
-    pub fn valid_journal_location(self, g: Geometry) -> Decision
-        ensures { result ≡ decided (ask_geometry g) (valid_journal_location g self) }
+    pub fn valid_journal_location(self, g: Geometry) -> Result<bool, Refusal>
+        ensures { result ≡ ok_unless (ask_geometry g) (valid_journal_location g self) }
     {
-        let q = g.ask();
-        if q != 0 {
-            return Decision::Refused(q);
-        }
+        g.ask()?;
         let b = self.in_journal(g);
-        Decision::Is(b)
+        Ok(b)
     }
 
     // Is it a superblock's, in the journal, or a table's?
-    pub fn valid_location(self, g: Geometry) -> Decision
-        ensures { result ≡ decided (ask_geometry g) (valid_location g self) }
+    pub fn valid_location(self, g: Geometry) -> Result<bool, Refusal>
+        ensures { result ≡ ok_unless (ask_geometry g) (valid_location g self) }
     {
-        let q = g.ask();
-        if q != 0 {
-            return Decision::Refused(q);
-        }
+        g.ask()?;
         let first = self.valid_superblock1_location();
         let second = self.valid_superblock2_location();
         let journal = self.in_journal(g);
         let table = self.valid_table(g);
         let b = first | (second | (journal | table));
-        Decision::Is(b)
+        Ok(b)
     }
 }

@@ -1,5 +1,7 @@
 -- The one test of entries in lent memory: those from one place up to another are there, each has an allowed length, and their bytes fit.
 -- What a yes tells, and entries in two parts.
+use Rattle.std.specs.Prelude.{None, Some}
+use Rattle.std.specs.declared.option.Option as code
 use Rattle.std.specs.Prelude.{ℕ, ◌+◌, ◌*◌, ◌-◌, ◌≤◌, Bool, true, false, ◌≡◌, List, ◌++◌, length, take, drop, get_or, leb}
 use Rattle.std.proofs.Common.{sym, ◌∙◌, ap, arith, take-append-drop, take-take, drop-drop}
 use borrow.Author.Tests.{leb-true, le-leb}
@@ -8,8 +10,6 @@ use Rattle.laws.specs.Fold.{sum, every, sum_append, sum_bound, every_append, eve
 use Rattle.laws.specs.Part.{drop_take, length_part}
 use Rattle.range.specs.Form.{most_entry_length, ok_length}
 use Rattle.range.specs.Lengths.{ok_high}
-use Rattle.lengths.specs.declared.Held.{Held}
-use Rattle.lengths.specs.declared.Held.TheVariants as held
 use Rattle.lengths.specs.Held.{held_ok, held_facts, facts_held, answer, held_of, answer_bytes, answer_nothing}
 
 -- the lengths of the entries from one place up to another
@@ -23,7 +23,7 @@ entries_ok room lens from to =
     (held_ok most_entry_length room (part from to lens)))
 
 -- the answer: their bytes
-unfoldable pub entries_held : ℕ → List ℕ → ℕ → ℕ → Held
+unfoldable pub entries_held : ℕ → List ℕ → ℕ → ℕ → code.Option ℕ
 entries_held room lens from to = answer (entries_ok room lens from to) (sum (part from to lens))
 
 -- the test as facts
@@ -54,11 +54,11 @@ module _ (room : ℕ) (lens : List ℕ) (from to : ℕ) where
       (facts_held most_entry_length room (part from to lens) (record { each = f.each; fit = f.fit })))
 
   -- what the answer tells
-  pub entries_bytes : (t : ℕ) → held.Bytes t ≡ entries_held room lens from to → Entries room lens from to × (t ≡ sum (part from to lens))
+  pub entries_bytes : (t : ℕ) → Some t ≡ entries_held room lens from to → Entries room lens from to × (t ≡ sum (part from to lens))
   unfolding entries_held
   entries_bytes t e = let a = answer_bytes _ _ t e in (entries_facts a.0, a.1)
 
-  pub entries_nothing : held.Nothing ≡ entries_held room lens from to → entries_ok room lens from to ≡ false
+  pub entries_nothing : None ≡ entries_held room lens from to → entries_ok room lens from to ≡ false
   unfolding entries_held
   entries_nothing e = answer_nothing _ _ e
 
@@ -69,7 +69,7 @@ part_is from to lens h =
     ap (λ (n : ℕ). drop from (take n lens)) (sym e) ∙ drop_take from (to - from) lens
 
 -- the walk over it is the answer
-pub entries_are : (room : ℕ) (lens : List ℕ) (from to : ℕ) {r : Held} → from ≤ to → to ≤ length lens → r ≡ held_of most_entry_length room (take (to - from) (drop from lens))
+pub entries_are : (room : ℕ) (lens : List ℕ) (from to : ℕ) {r : (code.Option ℕ)} → from ≤ to → to ≤ length lens → r ≡ held_of most_entry_length room (take (to - from) (drop from lens))
     → r ≡ entries_held room lens from to
 unfolding entries_held entries_ok held_of also
 entries_are room lens from to h k e =

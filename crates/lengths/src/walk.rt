@@ -1,6 +1,6 @@
 // Walks over a part of the lengths, of few enough that their sum has 32 bits. A loop keeps a flag or a sum and has no way out, so that the
 // compiler can look at many lengths at once.
-ghost use Rattle.std.specs.Prelude.{◌≡◌, ◌≤◌, ◌<◌, length};
+ghost use Rattle.std.specs.Prelude.{◌≡◌, ◌≤◌, length};
 ghost use Rattle.laws.specs.Choice.{also};
 ghost use Rattle.laws.specs.Fold.{sum, every};
 ghost use Rattle.range.specs.Form.{ok_length};
@@ -18,18 +18,10 @@ pub(crate) fn every_length_ok(lens: &[u16], most: u16) -> bool
     ensures { result ≡ every (ok_length most) lens.now }
 {
     let mut ok = true;
-    let mut i = 0;
-    while i < lens.len() {
-        ok = and_ok(ok, lens[i], most);
-        i += 1;
+    for &length in lens {
+        ok = and_ok(ok, length, most);
     }
     ok
-}
-
-fn wide(length: u16) -> u32
-    ensures { (result ≡ length) × (result < 65536) }
-{
-    length as u32
 }
 
 pub(crate) fn total(lens: &[u16]) -> u32
@@ -37,10 +29,8 @@ pub(crate) fn total(lens: &[u16]) -> u32
     ensures { result ≡ sum lens.now }
 {
     let mut bytes: u32 = 0;
-    let mut i = 0;
-    while i < lens.len() {
-        bytes += wide(lens[i]);
-        i += 1;
+    for &length in lens {
+        bytes += u32::from(length);
     }
     bytes
 }

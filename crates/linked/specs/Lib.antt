@@ -3,6 +3,7 @@ pub mod Answer
 pub mod State
 pub mod Steps
 pub mod Laws
+pub mod Bounds
 pub mod Sectors
 pub mod Records
 pub mod Superblocks

@@ -1,9 +1,8 @@
 -- The records that a caller's numbers are: what a program in another language passes one by one.
-use Rattle.std.specs.Prelude.{ℕ, Bool, cond}
+use Rattle.std.specs.Prelude.{ℕ, Bool, cond, None, Some}
+use Rattle.std.specs.declared.option.Option as code
 use Rattle.layout.specs.declared.Geometry.{Geometry}
-use Rattle.superblock.specs.declared.MaybeId.{MaybeId}
-use Rattle.superblock.specs.declared.MaybeId.TheVariants as maybe
-use Rattle.memory.specs.declared.Count.{Count}
+use Rattle.range.specs.declared.Count.{Count}
 
 -- N journal blocks, and tables of at most T bytes
 abbrev pub geometry_of : ℕ → ℕ → Geometry
@@ -14,5 +13,5 @@ abbrev pub counts : ℕ → ℕ → Count
 counts entries bytes = record { entries = entries; bytes = bytes }
 
 -- a second id, where there is one
-unfoldable pub second_id : Bool → ℕ → MaybeId
-second_id two id = cond two (maybe.Id id) maybe.NoId
+unfoldable pub second_id : Bool → ℕ → code.Option ℕ
+second_id two id = cond two (Some id) None

@@ -1,10 +1,15 @@
 -- The record of a disk as numbers: what a caller is told of an answer. Assumes nothing.
-use Rattle.std.specs.Prelude.{ℕ, List, ◌≡◌}
+use Rattle.std.specs.Prelude.{ℕ, List, ◌≡◌, Result, Ok, Err}
 use Rattle.std.proofs.Common.{subst}
-use Rattle.image.specs.declared.Recorded.{Recorded}
-use Rattle.image.specs.declared.Recorded.TheVariants as recorded
+use Rattle.refusal.specs.Refusal.{number}
+use Rattle.image.specs.declared.Held.{Held}
+use Rattle.image.specs.declared.Refused.{Refused}
 use Rattle.image.specs.Image.{Lent, unmarked, marked, record_of, record_lent}
 use Rattle.linked.specs.Numbers.{geometry_of}
+
+-- what a record answers
+abbrev pub Recorded : Type 0
+Recorded = Result Held Refused
 
 -- the record of N, T and an image, and what is lent after it; and by a caller who knows which blocks can be read
 abbrev pub record_by : ℕ → ℕ → List ℕ → Lent → Recorded
@@ -21,25 +26,25 @@ lent_marked n t disk marks l = record_lent (geometry_of n t) disk (marked (geome
 
 -- the number of the question that was answered no, or 0; and of which slot, 0 where it is of none
 unfoldable pub number_of : Recorded → ℕ
-number_of (recorded.Held s w n b) = 0
-number_of (recorded.Refused q k) = q
+number_of (Ok r) = 0
+number_of (Err r) = number r.no
 
 unfoldable pub slot_of : Recorded → ℕ
-slot_of (recorded.Held s w n b) = 0
-slot_of (recorded.Refused q k) = k
+slot_of (Ok r) = 0
+slot_of (Err r) = r.slot
 
 -- the selected slot, how many entries, how many bytes: after a refusal what they were
 unfoldable pub which_after : Recorded → ℕ → ℕ
-which_after (recorded.Held s w n b) old = w
-which_after (recorded.Refused q k) old = old
+which_after (Ok r) old = r.which
+which_after (Err r) old = old
 
 unfoldable pub found_after : Recorded → ℕ → ℕ
-found_after (recorded.Held s w n b) old = n
-found_after (recorded.Refused q k) old = old
+found_after (Ok r) old = r.entries
+found_after (Err r) old = old
 
 unfoldable pub size_after : Recorded → ℕ → ℕ
-size_after (recorded.Held s w n b) old = b
-size_after (recorded.Refused q k) old = old
+size_after (Ok r) old = r.bytes
+size_after (Err r) old = old
 
 -- all that is told of an answer, after numbers that were `w`, `f` and `b`; and of what the answer is
 abbrev Told : (q which found size slot w f b : ℕ) → Recorded → Type 0

@@ -1,13 +1,12 @@
 -- A machine at work, from 16 numbers that a caller keeps: no commit in flight, no location received, no outstanding journal write, no sync
 -- request. And question 1 of the numbers: all 16 are lent.
-use Rattle.std.specs.Prelude.{ℕ, List, length, get_or, eqb}
+use Rattle.std.specs.Prelude.{ℕ, List, length, get_or, eqb, None}
 use Rattle.laws.specs.Choice.{ask}
 use Rattle.layout.specs.declared.Geometry.{Geometry}
 use Rattle.superblock.specs.declared.Superblock.{Superblock}
 use Rattle.tables.specs.IdTable.{no_ids}
 use Rattle.ready.specs.declared.Commit.TheVariants.{CommitNone}
 use Rattle.ready.specs.declared.Frozen.{Frozen}
-use Rattle.ready.specs.declared.MaybeLocation.TheVariants.{NoLocation}
 use Rattle.ready.specs.declared.Entries.{Entries}
 use Rattle.ready.specs.declared.Ready.{Ready}
 use Rattle.machine.specs.declared.Machine.{Machine}
@@ -33,7 +32,7 @@ superblock_at xs =
 
 -- 9 and 10: 1 where it is frozen, and up to which position
 abbrev pub frozen_at : List ℕ → Frozen
-frozen_at xs = record { isFrozen = eqb (get_or xs 9 0) 1; frozenJournalPosition = get_or xs 10 0; frozenLoc = NoLocation }
+frozen_at xs = record { isFrozen = eqb (get_or xs 9 0) 1; frozenJournalPosition = get_or xs 10 0; frozenLoc = None }
 
 -- 11 to 15: entries pending, frozen, of the replay; of the replay taken, and their bytes
 abbrev pub entries_at : List ℕ → Entries

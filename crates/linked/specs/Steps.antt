@@ -1,8 +1,8 @@
 -- The machine's steps of the machine that a caller's 16 numbers make: what each call answers, and which numbers it sets.
+use Rattle.std.specs.declared.option.Option as code
 use Rattle.std.specs.Prelude.{ℕ, List, set}
 use Rattle.laws.specs.Choice.{and_then, unless}
 use Rattle.memory.specs.Given.{memory, count_of}
-use Rattle.superblock.specs.declared.MaybeId.{MaybeId}
 use Rattle.machine.specs.declared.Machine.{Machine}
 use Rattle.machine.specs.Lent.{Lent}
 use Rattle.machine.specs.Questions.{ask_machine, bodies_of}
@@ -36,10 +36,10 @@ replayed_numbers xs l brought sizes k =
     (set (set xs 14 (replayed_to xs brought sizes k).ready.entries.taken.entries) 15 (replayed_to xs brought sizes k).ready.entries.taken.bytes)
 
 -- WriteBackJournalReq: the blocks that are written, the frozen position, and the entries pending and frozen are counted anew
-unfoldable pub ask_write_of : List ℕ → Lent → ℕ → MaybeId → List ℕ → ℕ
+unfoldable pub ask_write_of : List ℕ → Lent → ℕ → code.Option ℕ → List ℕ → ℕ
 ask_write_of xs l id1 id2 out = and_then (ask_numbers xs) (ask_write (geometry_at xs) l (machine_of xs) id1 id2 out)
 
-abbrev pub written_to : List ℕ → Lent → ℕ → MaybeId → Machine
+abbrev pub written_to : List ℕ → Lent → ℕ → code.Option ℕ → Machine
 written_to xs l id1 id2 = write_back_journal_req_machine (machine_of xs) id1 id2 (bodies_of l.lens (machine_of xs))
 
 -- the four numbers, as a machine has them
@@ -50,5 +50,5 @@ with_written xs m =
     11 m.ready.entries.pending)
     12 m.ready.entries.frozen
 
-unfoldable pub written_numbers : List ℕ → Lent → ℕ → MaybeId → List ℕ → List ℕ
+unfoldable pub written_numbers : List ℕ → Lent → ℕ → code.Option ℕ → List ℕ → List ℕ
 written_numbers xs l id1 id2 out = unless (ask_write_of xs l id1 id2 out) xs (with_written xs (written_to xs l id1 id2))

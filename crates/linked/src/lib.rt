@@ -11,7 +11,7 @@
 // Each answers 0 or the number of the question that was answered no, and writes its other answers through references; `wokujani_select`, which
 // refuses nothing, answers a slot. Every function is total: whatever is passed, a refusal alters nothing, but that a record says the slot of its
 // refusal, and leaves the blocks that it couldn't parse in `pieces`. A name stands in the whole program's names, so it begins with the store's.
-#![tactic(auto)]
+#![tactic(auto, using(refusal::specs::Refusal::questions, laws::specs::Choice::tests, crate::specs::Bounds::bounds), unfolding(laws::specs::Choice::and_then, laws::specs::Choice::ask, laws::specs::Choice::unless, sector::specs::Sector::numbers_of, crate::specs::Numbers::second_id, crate::specs::Parts::first_of, crate::specs::Parts::blocks_of, crate::specs::Records::number_of, crate::specs::Records::slot_of, crate::specs::Records::which_after, crate::specs::Records::found_after, crate::specs::Records::size_after, crate::specs::State::machine_of, crate::specs::Superblocks::ask_superblock))]
 
 mod listing;
 mod looks;

@@ -6,8 +6,9 @@ ghost use Rattle.range.specs.Form.{length_width, entries, parses};
 ghost use Rattle.reader.specs.Entry.{ask_entry};
 ghost use Rattle.reader.specs.Listing.{body_starts, ask_list};
 
-use reader::{Counted, count, entry, entry_refusal, list};
-use runs::write_bytes;
+use reader::{count, entry, entry_refusal, list};
+use refusal::number_of;
+use runs::write;
 
 // How many entries the range has.
 #[unsafe(no_mangle)]
@@ -15,13 +16,12 @@ pub extern "C" fn wokujani_count_entries(s: &[u8], found: &mut u64) -> u8
     ensures value { result ≡ ask 7 (parses s.now) }
     ensures found_after { found.new ≡ unless (ask 7 (parses s.now)) found.old (length (entries s.now)) }
 {
-    let c = count(s);
-    match c {
-        Counted::Entries(n) => {
+    match count(s) {
+        Ok(n) => {
             *found = n;
             0
         },
-        Counted::Refused(q) => q,
+        Err(no) => no.number(),
     }
 }
 
@@ -32,13 +32,12 @@ pub extern "C" fn wokujani_list_entries(s: &[u8], starts: &mut [u64], found: &mu
     ensures starts_after { starts.new ≡ unless (ask_list s.now starts.old) starts.old (splice starts.old 0 (body_starts length_width s.now)) }
     ensures found_after { found.new ≡ unless (ask_list s.now starts.old) found.old (length (entries s.now)) }
 {
-    let c = list(s, starts);
-    match c {
-        Counted::Entries(n) => {
+    match list(s, starts) {
+        Ok(n) => {
             *found = n;
             0
         },
-        Counted::Refused(q) => q,
+        Err(no) => no.number(),
     }
 }
 
@@ -48,8 +47,7 @@ pub extern "C" fn wokujani_copy_entry(s: &[u8], i: u64, out: &mut [u8]) -> u8
     ensures value { result ≡ ask_entry s.now i }
     ensures out_after { out.new ≡ clipped out.old 0 (unless (ask_entry s.now i) [] (get_or (entries s.now) i [])) }
 {
-    let q = entry_refusal(s, i);
     let body = entry(s, i);
-    write_bytes(body, out, 0);
-    q
+    write(body, out, 0);
+    number_of(&entry_refusal(s, i))
 }

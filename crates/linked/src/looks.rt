@@ -10,7 +10,8 @@ ghost use Rattle.linked.specs.Numbers.{geometry_of, counts};
 
 use journal::ask_journal;
 use layout::Geometry;
-use memory::{Count, Counted, Limits, PendingCount, count_left, count_pending};
+use memory::{Count, Limits, count_left, count_pending};
+use refusal::number_of;
 
 // Question 1 of a journal: N and T within their bounds, N blocks lent, N marks lent, each 0 or 1.
 #[unsafe(no_mangle)]
@@ -21,7 +22,7 @@ pub extern "C" fn wokujani_ask_journal(n: u64, t: u64, journal: &[u8], marks: &[
         blocks: n,
         table: t,
     };
-    ask_journal(g, journal, marks)
+    number_of(&ask_journal(g, journal, marks))
 }
 
 // Questions 1 and 2 of pending memory that holds n entries, the first of them frozen; and the bytes of the frozen ones, and of all.
@@ -42,14 +43,15 @@ pub extern "C" fn wokujani_count_pending(
         entries: Limits::MOST_ENTRIES,
         bytes: Limits::MOST_BYTES,
     };
-    let p = count_pending(limits, bytes, lens, n, frozen);
-    match p {
-        PendingCount::Now { frozen: front, all } => {
+    match count_pending(limits, bytes, lens, n, frozen) {
+        Ok(pending) => {
+            let front = pending.frozen;
+            let all = pending.all;
             *first = front.bytes;
             *size = all.bytes;
             0
         },
-        PendingCount::Refused(q) => q,
+        Err(no) => no.number(),
     }
 }
 
@@ -71,13 +73,12 @@ pub extern "C" fn wokujani_count_left(
     ensures size_after { size.new ≡ unless (ask_replay blocks (memory rbytes.now rlens.now n) (counts entries bytes)) size.old (left_of (memory rbytes.now rlens.now n) (counts entries bytes)).bytes }
 {
     let taken = Count { entries, bytes };
-    let c = count_left(blocks, rbytes, rlens, n, taken);
-    match c {
-        Counted::Now(left) => {
+    match count_left(blocks, rbytes, rlens, n, taken) {
+        Ok(left) => {
             *found = left.entries;
             *size = left.bytes;
             0
         },
-        Counted::Refused(q) => q,
+        Err(no) => no.number(),
     }
 }

@@ -5,19 +5,19 @@ ghost use Rattle.interval.specs.Interval.{ask_interval, interval};
 ghost use Rattle.linked.specs.Numbers.{geometry_of};
 ghost use Rattle.linked.specs.Parts.{first_of, blocks_of, front_of, back_of};
 
-use interval::{JournalInterval, MaybeInterval};
+use interval::JournalInterval;
 use layout::Geometry;
 
-fn tell_part(part: MaybeInterval, first: &mut u64, blocks: &mut u64)
+fn tell_part(part: Option<JournalInterval>, first: &mut u64, blocks: &mut u64)
     ensures first_after { first.new ≡ first_of part }
     ensures blocks_after { blocks.new ≡ blocks_of part }
 {
     match part {
-        MaybeInterval::Is(v) => {
+        Some(v) => {
             *first = v.start;
             *blocks = v.len;
         },
-        MaybeInterval::Nothing => {
+        None => {
             *first = 0;
             *blocks = 0;
         },
@@ -43,9 +43,8 @@ pub extern "C" fn wokujani_front(
         table: t,
     };
     let v = JournalInterval { start, len };
-    let q = v.ask(g);
-    if q != 0 {
-        return q;
+    if let Err(no) = v.ask(g) {
+        return no.number();
     }
     let part = v.front(g);
     tell_part(part, first, blocks);
@@ -71,9 +70,8 @@ pub extern "C" fn wokujani_back(
         table: t,
     };
     let v = JournalInterval { start, len };
-    let q = v.ask(g);
-    if q != 0 {
-        return q;
+    if let Err(no) = v.ask(g) {
+        return no.number();
     }
     let part = v.back(g);
     tell_part(part, first, blocks);

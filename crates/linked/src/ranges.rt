@@ -7,7 +7,6 @@ ghost use Rattle.laws.specs.Cut.{flat, lengths};
 ghost use Rattle.range.specs.Form.{all_entries, all_parse};
 ghost use Rattle.unpacker.specs.Unpack.{ask_unpack};
 
-use reader::Scanned;
 use unpacker::{scan, unpack};
 
 // How many entries all ranges have, and how many bytes these have together.
@@ -17,14 +16,13 @@ pub extern "C" fn wokujani_scan(s: &[u8], found: &mut u64, size: &mut u64) -> u8
     ensures found_after { found.new ≡ unless (ask 7 (all_parse s.now)) found.old (length (all_entries s.now)) }
     ensures size_after { size.new ≡ unless (ask 7 (all_parse s.now)) size.old (sum (lengths (all_entries s.now))) }
 {
-    let c = scan(s);
-    match c {
-        Scanned::Total { entries, bytes } => {
-            *found = entries;
-            *size = bytes;
+    match scan(s) {
+        Ok(total) => {
+            *found = total.entries;
+            *size = total.bytes;
             0
         },
-        Scanned::Refused(q) => q,
+        Err(no) => no.number(),
     }
 }
 
@@ -43,16 +41,12 @@ pub extern "C" fn wokujani_unpack(
     ensures found_after { found.new ≡ unless (ask_unpack s.now bytes.old lens.old) found.old (length (all_entries s.now)) }
     ensures size_after { size.new ≡ unless (ask_unpack s.now bytes.old lens.old) size.old (sum (lengths (all_entries s.now))) }
 {
-    let c = unpack(s, bytes, lens);
-    match c {
-        Scanned::Total {
-            entries,
-            bytes: total,
-        } => {
-            *found = entries;
-            *size = total;
+    match unpack(s, bytes, lens) {
+        Ok(total) => {
+            *found = total.entries;
+            *size = total.bytes;
             0
         },
-        Scanned::Refused(q) => q,
+        Err(no) => no.number(),
     }
 }

@@ -3,11 +3,17 @@ ghost use Rattle.std.specs.Prelude.{◌≡◌};
 ghost use Rattle.image.specs.Image.{before, after};
 ghost use Rattle.linked.specs.Records.{record_by, lent_by, record_marked, lent_marked, number_of, slot_of, which_after, found_after, size_after};
 
-use image::{Recorded, record, record_marked};
+use image::{Held, Refused, record, record_marked};
 use layout::Geometry;
 
 // An answer as numbers: `which`, `found` and `size` where nothing is refused, `slot` always.
-fn tell(r: Recorded, which: &mut u64, found: &mut u64, size: &mut u64, slot: &mut u64) -> u8
+fn tell(
+    r: Result<Held, Refused>,
+    which: &mut u64,
+    found: &mut u64,
+    size: &mut u64,
+    slot: &mut u64,
+) -> u8
     ensures value { result ≡ number_of r }
     ensures which_after { which.new ≡ which_after r which.old }
     ensures found_after { found.new ≡ found_after r found.old }
@@ -15,24 +21,17 @@ fn tell(r: Recorded, which: &mut u64, found: &mut u64, size: &mut u64, slot: &mu
     ensures slot_after { slot.new ≡ slot_of r }
 {
     match r {
-        Recorded::Held {
-            superblock: _,
-            which: selected,
-            entries,
-            bytes,
-        } => {
-            *which = selected;
-            *found = entries;
-            *size = bytes;
+        Ok(record) => {
+            *which = record.which;
+            *found = record.entries;
+            *size = record.bytes;
             *slot = 0;
             0
         },
-        Recorded::Refused {
-            number,
-            slot: place,
-        } => {
-            *slot = place as u64;
-            number
+        Err(refused) => {
+            let no = refused.no;
+            *slot = refused.slot as u64;
+            no.number()
         },
     }
 }

@@ -1,25 +1,27 @@
 // A machine at work, made of 16 numbers that a caller keeps.
 ghost use Rattle.std.specs.Prelude.{◌≡◌, length, eqb};
 ghost use Rattle.laws.specs.Choice.{ask};
+ghost use Rattle.refusal.specs.Refusal.{asked};
 ghost use Rattle.linked.specs.State.{geometry_at, superblock_at, frozen_at, entries_at, ready_of, machine_of};
 
 use layout::{Geometry, Location};
 use machine::Machine;
 use memory::Count;
-use ready::{Commit, Entries, Frozen, MaybeLocation, Ready};
+use ready::{Commit, Entries, Frozen, Ready};
+use refusal::Refusal;
 use superblock::Superblock;
 use tables::IdTable;
 
 const NUMBERS: usize = 16;
 
 // Question 1 of the numbers.
-pub(crate) fn ask_numbers(len: usize) -> u8
-    ensures { result ≡ ask 1 (eqb len 16) }
+pub(crate) fn ask_numbers(len: usize) -> Result<(), Refusal>
+    ensures { result ≡ asked (ask 1 (eqb len 16)) }
 {
-    if len == NUMBERS {
-        return 0;
+    if len != NUMBERS {
+        return Err(Refusal::Sizes);
     }
-    1
+    Ok(())
 }
 
 pub(crate) fn geometry_at(m: &[u64]) -> Geometry
@@ -55,7 +57,7 @@ fn frozen_at(m: &[u64]) -> Frozen
     Frozen {
         isFrozen: m[9] == 1,
         frozenJournalPosition: m[10],
-        frozenLoc: MaybeLocation::NoLocation,
+        frozenLoc: None,
     }
 }
 

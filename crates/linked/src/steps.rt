@@ -8,8 +8,7 @@ ghost use Rattle.linked.specs.Steps.{ask_add_of, added_numbers, ask_replay_of, r
 ghost use Rattle.linked.specs.Numbers.{second_id};
 
 use super::state::{ask_numbers, geometry_at, machine_of};
-use machine::MachineAnswer;
-use superblock::MaybeId;
+use machine::Lent;
 
 // Advance: the first k entries of what the caller brings come behind the pending ones.
 #[unsafe(no_mangle)]
@@ -29,21 +28,16 @@ pub extern "C" fn wokujani_add(
     ensures bytes_after { bytes.new ≡ unless (ask_numbers state.old) bytes.old (advanced_bytes (geometry_at state.old) (lent bytes.old lens.old pieces.now rbytes.now rlens.now) (machine_of state.old) brought.now sizes.now k) }
     ensures lens_after { lens.new ≡ unless (ask_numbers state.old) lens.old (advanced_lens (geometry_at state.old) (lent bytes.old lens.old pieces.now rbytes.now rlens.now) (machine_of state.old) brought.now sizes.now k) }
 {
-    let p = ask_numbers(state.len());
-    if p != 0 {
-        return p;
+    if let Err(no) = ask_numbers(state.len()) {
+        return no.number();
     }
     let g = geometry_at(state);
     let m = machine_of(state);
     let r = m.advance(g, brought, sizes, k, bytes, lens, pieces, rbytes, rlens);
-    let a = r.answer;
-    match a {
-        MachineAnswer::Refused(q) => q,
-        MachineAnswer::Next(_) => {
-            let next = r.machine;
-            let ready = next.ready;
-            let e = ready.entries;
-            state[11] = e.pending;
+    match r.answer {
+        Err(no) => no.number(),
+        Ok(_) => {
+            state[11] = r.machine.ready.entries.pending;
             0
         },
     }
@@ -65,21 +59,23 @@ pub extern "C" fn wokujani_replay(
     ensures value { result ≡ ask_replay_of state.old (lent bytes.now lens.now pieces.now rbytes.now rlens.now) brought.now sizes.now k }
     ensures state_after { state.new ≡ replayed_numbers state.old (lent bytes.now lens.now pieces.now rbytes.now rlens.now) brought.now sizes.now k }
 {
-    let p = ask_numbers(state.len());
-    if p != 0 {
-        return p;
+    if let Err(no) = ask_numbers(state.len()) {
+        return no.number();
     }
     let g = geometry_at(state);
     let m = machine_of(state);
-    let r = m.replay(g, brought, sizes, k, bytes, lens, pieces, rbytes, rlens);
-    let a = r.answer;
-    match a {
-        MachineAnswer::Refused(q) => q,
-        MachineAnswer::Next(_) => {
-            let next = r.machine;
-            let ready = next.ready;
-            let e = ready.entries;
-            let taken = e.taken;
+    let lent = Lent {
+        bytes,
+        lens,
+        pieces,
+        rbytes,
+        rlens,
+    };
+    let r = m.replay(g, brought, sizes, k, lent);
+    match r.answer {
+        Err(no) => no.number(),
+        Ok(_) => {
+            let taken = r.machine.ready.entries.taken;
             state[14] = taken.entries;
             state[15] = taken.bytes;
             0
@@ -88,13 +84,13 @@ pub extern "C" fn wokujani_replay(
 }
 
 // A second id, where there is one: a range that goes round the ring's end takes two.
-fn second_id(two: bool, id: u64) -> MaybeId
+fn second_id(two: bool, id: u64) -> Option<u64>
     ensures { result ≡ second_id two id }
 {
     if two {
-        return MaybeId::Id(id);
+        return Some(id);
     }
-    MaybeId::NoId
+    None
 }
 
 // WriteBackJournalReq: the range goes to the front of `out`, N blocks, and what is left of pending memory moves to its front.
@@ -117,26 +113,21 @@ pub extern "C" fn wokujani_write_journal(
     ensures bytes_after { bytes.new ≡ unless (ask_numbers state.old) bytes.old (written_bytes (geometry_at state.old) (lent bytes.old lens.old pieces.now rbytes.now rlens.now) (machine_of state.old) id1 (second_id two id2) out.old) }
     ensures lens_after { lens.new ≡ unless (ask_numbers state.old) lens.old (written_lens (geometry_at state.old) (lent bytes.old lens.old pieces.now rbytes.now rlens.now) (machine_of state.old) id1 (second_id two id2) out.old) }
 {
-    let p = ask_numbers(state.len());
-    if p != 0 {
-        return p;
+    if let Err(no) = ask_numbers(state.len()) {
+        return no.number();
     }
     let g = geometry_at(state);
     let m = machine_of(state);
     let other = second_id(two, id2);
     let r = m.write_back_journal_req(g, id1, other, out, bytes, lens, pieces, rbytes, rlens);
-    let a = r.answer;
-    match a {
-        MachineAnswer::Refused(q) => q,
-        MachineAnswer::Next(_) => {
-            let next = r.machine;
-            let ready = next.ready;
-            let frozen = ready.frozen;
-            let e = ready.entries;
+    match r.answer {
+        Err(no) => no.number(),
+        Ok(_) => {
+            let ready = r.machine.ready;
             state[8] = ready.writtenJournalLen;
-            state[10] = frozen.frozenJournalPosition;
-            state[11] = e.pending;
-            state[12] = e.frozen;
+            state[10] = ready.frozen.frozenJournalPosition;
+            state[11] = ready.entries.pending;
+            state[12] = ready.entries.frozen;
             0
         },
     }

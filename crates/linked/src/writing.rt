@@ -7,7 +7,7 @@ ghost use Rattle.range.specs.Memory.{view};
 ghost use Rattle.writer.specs.Entries.{ask_entries};
 ghost use Rattle.writer.specs.Ring.{ask_write};
 
-use writer::{Written, range_blocks, write_range};
+use writer::{range_blocks, write_range};
 
 // How many blocks the range of the first n entries takes.
 #[unsafe(no_mangle)]
@@ -15,13 +15,12 @@ pub extern "C" fn wokujani_range_blocks(bytes: &[u8], lens: &[u16], n: u64, take
     ensures value { result ≡ ask_entries bytes.now lens.now n }
     ensures taken_after { taken.new ≡ unless (ask_entries bytes.now lens.now n) taken.old (blocks (view bytes.now lens.now n)) }
 {
-    let w = range_blocks(bytes, lens, n);
-    match w {
-        Written::Blocks(b) => {
+    match range_blocks(bytes, lens, n) {
+        Ok(b) => {
             *taken = b;
             0
         },
-        Written::Refused(q) => q,
+        Err(no) => no.number(),
     }
 }
 
@@ -39,12 +38,11 @@ pub extern "C" fn wokujani_write_range(
     ensures journal_after { journal.new ≡ unless (ask_write bytes.now lens.now n journal.old start) journal.old (splice_around journal.old (start * block_size) (encode (view bytes.now lens.now n))) }
     ensures taken_after { taken.new ≡ unless (ask_write bytes.now lens.now n journal.old start) taken.old (blocks (view bytes.now lens.now n)) }
 {
-    let w = write_range(bytes, lens, n, journal, start);
-    match w {
-        Written::Blocks(b) => {
+    match write_range(bytes, lens, n, journal, start) {
+        Ok(b) => {
             *taken = b;
             0
         },
-        Written::Refused(q) => q,
+        Err(no) => no.number(),
     }
 }

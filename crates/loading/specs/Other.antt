@@ -1,13 +1,13 @@
 -- Loading the journal of the selected superblock: question 2's test of the record, and of each step its own questions and its effect; and
 -- where a piece's blocks lie in lent memory: the front's from block 0 on, the back's behind them.
+use Rattle.std.specs.Prelude.{None, Some}
+use Rattle.std.specs.declared.option.Option as code
 use Rattle.std.specs.Prelude.{ℕ, Bool, cond, leb}
 use Rattle.std.proofs.Math.Option.{Option}
 use Rattle.laws.specs.Choice.{also, ask, and_then}
 use Rattle.layout.specs.declared.Geometry.{Geometry}
 use Rattle.interval.specs.declared.JournalInterval.{JournalInterval}
-use Rattle.interval.specs.declared.MaybeInterval.{MaybeInterval}
-use Rattle.interval.specs.declared.MaybeInterval.TheVariants as maybe
-use Rattle.interval.specs.Answer.{maybe_interval}
+use Rattle.laws.specs.Optional.{optional}
 use Rattle.interval.specs.Interval.{interval}
 use Rattle.superblock.specs.declared.Superblock.{Superblock}
 use Rattle.superblock.specs.declared.JournalRead.{JournalRead}
@@ -30,11 +30,11 @@ selected_other superblock1 superblock2 =
     }
 
 -- the two pieces of the superblock's interval, and their blocks
-abbrev pub front_of : Geometry → Superblock → MaybeInterval
-front_of g superblock = maybe_interval (journal_front_interval_of_superblock g superblock)
+abbrev pub front_of : Geometry → Superblock → code.Option JournalInterval
+front_of g superblock = optional (journal_front_interval_of_superblock g superblock)
 
-abbrev pub back_of : Geometry → Superblock → MaybeInterval
-back_of g superblock = maybe_interval (journal_back_interval_of_superblock g superblock)
+abbrev pub back_of : Geometry → Superblock → code.Option JournalInterval
+back_of g superblock = optional (journal_back_interval_of_superblock g superblock)
 
 unfoldable pub front_blocks : Geometry → Superblock → ℕ
 front_blocks g superblock = blocks_of (front_of g superblock)
@@ -69,15 +69,15 @@ to_pieces s front back = record { superblock = s.superblock; whichSuperblock = s
 unfoldable pub ask_page_in_journal_req : Geometry → LoadingOther → ℕ → ℕ
 ask_page_in_journal_req g s which =
     and_then (ask_which which)
-    (ask 6 (also (is_there (maybe_interval (interval_at g s which))) (piece_unread (piece_at s which))))
+    (ask 6 (also (is_there (optional (interval_at g s which))) (piece_unread (piece_at s which))))
 
 -- the interval that is asked for; the empty one where there is none
-abbrev pub interval_of : MaybeInterval → JournalInterval
-interval_of (maybe.Is v) = v
-interval_of maybe.Nothing = interval 0 0
+abbrev pub interval_of : code.Option JournalInterval → JournalInterval
+interval_of (Some v) = v
+interval_of None = interval 0 0
 
 unfoldable pub page_in_journal_req_interval : Geometry → LoadingOther → ℕ → JournalInterval
-page_in_journal_req_interval g s which = interval_of (maybe_interval (interval_at g s which))
+page_in_journal_req_interval g s which = interval_of (optional (interval_at g s which))
 
 -- the other piece's read under the same id is cleared
 unfoldable pub page_in_journal_req_next : LoadingOther → ℕ → ℕ → LoadingOther

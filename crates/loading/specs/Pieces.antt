@@ -1,24 +1,25 @@
 -- One piece of the journal while it is read: what question 2 and the steps ask of it, and how a read ends. Whether it is there, and with how
 -- many blocks, the superblock's interval says.
+use Rattle.interval.specs.declared.JournalInterval.{JournalInterval}
+use Rattle.std.specs.Prelude.{None, Some}
+use Rattle.std.specs.declared.option.Option as code
 use Rattle.std.specs.Prelude.{ℕ, Bool, true, false, cond, not, eqb}
-use Rattle.interval.specs.declared.MaybeInterval.{MaybeInterval}
-use Rattle.interval.specs.declared.MaybeInterval.TheVariants as interval
 use Rattle.superblock.specs.declared.JournalRead.{JournalRead}
 use Rattle.superblock.specs.declared.JournalRead.TheVariants as read
 use Rattle.loading.specs.declared.Piece.{Piece}
 use Rattle.loading.specs.declared.Piece.TheVariants as piece
 
 -- the piece is there, and its blocks
-abbrev pub is_there : MaybeInterval → Bool
-is_there (interval.Is v) = true
-is_there interval.Nothing = false
+abbrev pub is_there : code.Option JournalInterval → Bool
+is_there (Some v) = true
+is_there None = false
 
-abbrev pub blocks_of : MaybeInterval → ℕ
-blocks_of (interval.Is v) = v.len
-blocks_of interval.Nothing = 0
+abbrev pub blocks_of : code.Option JournalInterval → ℕ
+blocks_of (Some v) = v.len
+blocks_of None = 0
 
 -- a piece that is read, or in, is there
-abbrev pub piece_interval : Piece → MaybeInterval → Bool
+abbrev pub piece_interval : Piece → code.Option JournalInterval → Bool
 piece_interval piece.Unread v = true
 piece_interval (piece.Reading id) v = is_there v
 piece_interval piece.In v = is_there v
@@ -35,7 +36,7 @@ piece_unread (piece.Reading id) = false
 piece_unread piece.In = false
 
 -- a piece that is there is in
-abbrev pub piece_loaded : Piece → MaybeInterval → Bool
+abbrev pub piece_loaded : Piece → code.Option JournalInterval → Bool
 piece_loaded piece.Unread v = not (is_there v)
 piece_loaded (piece.Reading id) v = not (is_there v)
 piece_loaded piece.In v = true

@@ -1,10 +1,9 @@
 -- One superblock slot while it is read: what question 2 and the steps ask of it, and how a read ends.
+use Rattle.superblock.specs.declared.Superblock.{Superblock}
+use Rattle.std.specs.Prelude.{None, Some}
+use Rattle.std.specs.declared.option.Option as code
 use Rattle.std.specs.Prelude.{ℕ, Bool, true, false, cond, not, eqb}
 use Rattle.layout.specs.declared.Geometry.{Geometry}
-use Rattle.superblock.specs.declared.MaybeSuperblock.{MaybeSuperblock}
-use Rattle.superblock.specs.declared.MaybeSuperblock.TheVariants as holds
-use Rattle.superblock.specs.declared.SuperblockRead.{SuperblockRead}
-use Rattle.superblock.specs.declared.SuperblockRead.TheVariants as read
 use Rattle.superblock.specs.Superblock.{wf_superblock}
 use Rattle.loading.specs.declared.SlotRead.{SlotRead}
 use Rattle.loading.specs.declared.SlotRead.TheVariants as slot
@@ -43,11 +42,11 @@ slot_succeeded (slot.Success superblock) = true
 slot_succeeded slot.Corruption = false
 
 -- the superblock that was read
-abbrev pub slot_holds : SlotRead → MaybeSuperblock
-slot_holds slot.Unasked = holds.Empty
-slot_holds (slot.Awaited id) = holds.Empty
-slot_holds (slot.Success superblock) = holds.Holds superblock
-slot_holds slot.Corruption = holds.Empty
+abbrev pub slot_holds : SlotRead → code.Option Superblock
+slot_holds slot.Unasked = None
+slot_holds (slot.Awaited id) = None
+slot_holds (slot.Success superblock) = Some superblock
+slot_holds slot.Corruption = None
 
 -- the two slots are not read under one id
 abbrev pub slot_reads_differ : SlotRead → SlotRead → Bool
@@ -57,6 +56,6 @@ slot_reads_differ (slot.Success superblock) other = true
 slot_reads_differ slot.Corruption other = true
 
 -- 000's `sup`: damaged or ill formed, a read leaves the slot corrupt
-abbrev pub slot_read : Geometry → SuperblockRead → SlotRead
-slot_read g (read.Whole superblock) = cond (wf_superblock g superblock) (slot.Success superblock) slot.Corruption
-slot_read g read.Damaged = slot.Corruption
+abbrev pub slot_read : Geometry → code.Option Superblock → SlotRead
+slot_read g (Some superblock) = cond (wf_superblock g superblock) (slot.Success superblock) slot.Corruption
+slot_read g None = slot.Corruption

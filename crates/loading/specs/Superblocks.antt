@@ -1,11 +1,10 @@
 -- Loading the superblocks: question 2's test of the record, and of each step its own questions and its effect.
+use Rattle.std.specs.Prelude.{None, Some}
+use Rattle.std.specs.declared.option.Option as code
 use Rattle.std.specs.Prelude.{ℕ, Bool, cond, not}
 use Rattle.laws.specs.Choice.{also, ask, and_then}
 use Rattle.layout.specs.declared.Geometry.{Geometry}
 use Rattle.superblock.specs.declared.Superblock.{Superblock}
-use Rattle.superblock.specs.declared.MaybeSuperblock.{MaybeSuperblock}
-use Rattle.superblock.specs.declared.MaybeSuperblock.TheVariants as holds
-use Rattle.superblock.specs.declared.SuperblockRead.{SuperblockRead}
 use Rattle.loading.specs.declared.SlotRead.{SlotRead}
 use Rattle.loading.specs.declared.SlotRead.TheVariants as slot
 use Rattle.loading.specs.declared.LoadingSuperblock.{LoadingSuperblock}
@@ -52,13 +51,13 @@ page_in_superblock_req_next s which id = to_slot s which (slot.Awaited id)
 unfoldable pub superblock_awaited : LoadingSuperblock → ℕ → ℕ → Bool
 superblock_awaited s which id = slot_awaits (slot_at s which) id
 
-unfoldable pub page_in_superblock_resp_next : Geometry → LoadingSuperblock → ℕ → ℕ → SuperblockRead → LoadingSuperblock
+unfoldable pub page_in_superblock_resp_next : Geometry → LoadingSuperblock → ℕ → ℕ → code.Option Superblock → LoadingSuperblock
 page_in_superblock_resp_next g s which id r = cond (superblock_awaited s which id) (to_slot s which (slot_read g r)) s
 
 -- one thing where a slot has a superblock, another where it has none
-abbrev pub if_holds {ℓ} : {A : Type ℓ} → MaybeSuperblock → (Superblock → A) → A → A
-if_holds (holds.Holds superblock) f a = f superblock
-if_holds holds.Empty f a = a
+abbrev pub if_holds {ℓ} : {A : Type ℓ} → code.Option Superblock → (Superblock → A) → A → A
+if_holds (Some superblock) f a = f superblock
+if_holds None f a = a
 
 -- FinishLoadingSuperblockPhase: 6 unless both slots were read; the newer superblock is selected
 unfoldable pub ask_finish_loading_superblock_phase : LoadingSuperblock → ℕ

@@ -4,7 +4,7 @@
 //   Paged               where in lent memory the piece that a journal answer brings in is to lie
 // A step of the machine is more than what is here: it asks questions 1, 2 and 3 first. Here are question 2's test of each record (`ok`), a
 // step's own questions (`ask_x`, in document 01's order) and its effect on the record (`x_next`). Every function is total.
-#![tactic(auto)]
+#![tactic(auto, using(refusal::specs::Refusal::questions, laws::specs::Choice::tests), unfolding(laws::specs::Choice::and_then, laws::specs::Choice::ask, laws::specs::Choice::also, crate::specs::Which::ask_which, crate::specs::Other::selected_other, crate::specs::Other::front_blocks, crate::specs::Other::back_blocks, crate::specs::Other::pieces_ok, crate::specs::Other::loading_other_ok, crate::specs::Other::ask_page_in_journal_req, crate::specs::Other::page_in_journal_req_interval, crate::specs::Other::page_in_journal_req_next, crate::specs::Other::place_of, crate::specs::Other::page_in_journal_resp_next, crate::specs::Other::ask_finish_loading_other_phase, crate::specs::Superblocks::loading_superblock_ok, crate::specs::Superblocks::ask_page_in_superblock_req, crate::specs::Superblocks::page_in_superblock_req_next, crate::specs::Superblocks::superblock_awaited, crate::specs::Superblocks::page_in_superblock_resp_next, crate::specs::Superblocks::ask_finish_loading_superblock_phase, crate::specs::Superblocks::finish_loading_superblock_phase_next, crate::specs::Superblocks::ask_ask_again, crate::specs::Superblocks::ask_again_next))]
 
 mod other;
 mod pieces;

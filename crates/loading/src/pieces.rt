@@ -1,41 +1,27 @@
 // One piece of the journal while it is read: the front, up to the ring's end, or the back, from the first block on.
 ghost use Rattle.std.specs.Prelude.{◌≡◌};
-ghost use Rattle.loading.specs.Pieces.{is_there, blocks_of, piece_interval, piece_reads, piece_unread, piece_loaded, piece_reads_differ, without_read, piece_read};
+ghost use Rattle.loading.specs.Pieces.{blocks_of, piece_interval, piece_reads, piece_unread, piece_loaded, piece_reads_differ, without_read, piece_read};
 
 use super::Piece;
-use interval::MaybeInterval;
+use interval::JournalInterval;
 use superblock::JournalRead;
 
-// Has the superblock's interval this piece?
-pub(crate) fn is_there(v: MaybeInterval) -> bool
-    ensures { result ≡ is_there v }
-{
-    match v {
-        MaybeInterval::Is(_) => true,
-        MaybeInterval::Nothing => false,
-    }
-}
-
-// How many blocks it has.
-pub(crate) fn blocks_of(v: MaybeInterval) -> u64
+// How many blocks a piece has: none where it isn't there.
+pub(crate) fn blocks_of(v: Option<JournalInterval>) -> u64
     ensures { result ≡ blocks_of v }
 {
     match v {
-        MaybeInterval::Is(i) => i.len,
-        MaybeInterval::Nothing => 0,
+        Some(i) => i.len,
+        None => 0,
     }
 }
 
 impl Piece {
     // Is a piece that is read, or in, there?
-    pub(crate) fn has_interval(self, v: MaybeInterval) -> bool
+    pub(crate) fn has_interval(self, v: Option<JournalInterval>) -> bool
         ensures { result ≡ piece_interval self v }
     {
-        match self {
-            Piece::Unread => true,
-            Piece::Reading(_) => is_there(v),
-            Piece::In => is_there(v),
-        }
+        self.unread() || v.is_some()
     }
 
     // Is the read under this id awaited?
@@ -43,37 +29,22 @@ impl Piece {
         ensures { result ≡ piece_reads self id }
     {
         match self {
-            Piece::Unread => false,
             Piece::Reading(k) => k == id,
-            Piece::In => false,
+            _ => false,
         }
     }
 
     pub(crate) fn unread(self) -> bool
         ensures { result ≡ piece_unread self }
     {
-        match self {
-            Piece::Unread => true,
-            Piece::Reading(_) => false,
-            Piece::In => false,
-        }
+        matches!(self, Piece::Unread)
     }
 
     // Is it in, or not there at all?
-    pub(crate) fn loaded(self, v: MaybeInterval) -> bool
+    pub(crate) fn loaded(self, v: Option<JournalInterval>) -> bool
         ensures { result ≡ piece_loaded self v }
     {
-        match self {
-            Piece::Unread => {
-                let a = is_there(v);
-                !a
-            }
-            Piece::Reading(_) => {
-                let a = is_there(v);
-                !a
-            }
-            Piece::In => true,
-        }
+        matches!(self, Piece::In) || v.is_none()
     }
 
     // Are not both pieces read under one id?
@@ -81,12 +52,8 @@ impl Piece {
         ensures { result ≡ piece_reads_differ self other }
     {
         match self {
-            Piece::Unread => true,
-            Piece::Reading(k) => {
-                let a = other.reads(k);
-                !a
-            }
-            Piece::In => true,
+            Piece::Reading(k) => !other.reads(k),
+            _ => true,
         }
     }
 
@@ -94,8 +61,7 @@ impl Piece {
     pub(crate) fn without(self, id: u64) -> Piece
         ensures { result ≡ without_read self id }
     {
-        let a = self.reads(id);
-        if a {
+        if self.reads(id) {
             return Piece::Unread;
         }
         self

@@ -4,7 +4,7 @@ ghost use Rattle.loading.specs.Slots.{success_wf, slot_awaits, slot_unasked, slo
 
 use super::SlotRead;
 use layout::Geometry;
-use superblock::{MaybeSuperblock, SuperblockRead};
+use superblock::Superblock;
 
 impl SlotRead {
     // Is a superblock that was read well formed?
@@ -12,10 +12,8 @@ impl SlotRead {
         ensures { result ≡ success_wf g self }
     {
         match self {
-            SlotRead::Unasked => true,
-            SlotRead::Awaited(_) => true,
             SlotRead::Success(s) => s.well_formed(g),
-            SlotRead::Corruption => true,
+            _ => true,
         }
     }
 
@@ -24,55 +22,36 @@ impl SlotRead {
         ensures { result ≡ slot_awaits self id }
     {
         match self {
-            SlotRead::Unasked => false,
             SlotRead::Awaited(k) => k == id,
-            SlotRead::Success(_) => false,
-            SlotRead::Corruption => false,
+            _ => false,
         }
     }
 
     pub(crate) fn unasked(self) -> bool
         ensures { result ≡ slot_unasked self }
     {
-        match self {
-            SlotRead::Unasked => true,
-            SlotRead::Awaited(_) => false,
-            SlotRead::Success(_) => false,
-            SlotRead::Corruption => false,
-        }
+        matches!(self, SlotRead::Unasked)
     }
 
     pub(crate) fn corrupt(self) -> bool
         ensures { result ≡ slot_corrupt self }
     {
-        match self {
-            SlotRead::Unasked => false,
-            SlotRead::Awaited(_) => false,
-            SlotRead::Success(_) => false,
-            SlotRead::Corruption => true,
-        }
+        matches!(self, SlotRead::Corruption)
     }
 
     pub(crate) fn succeeded(self) -> bool
         ensures { result ≡ slot_succeeded self }
     {
-        match self {
-            SlotRead::Unasked => false,
-            SlotRead::Awaited(_) => false,
-            SlotRead::Success(_) => true,
-            SlotRead::Corruption => false,
-        }
+        matches!(self, SlotRead::Success(_))
     }
 
     // The superblock that was read, if one was.
-    pub(crate) fn holds(self) -> MaybeSuperblock
+    pub(crate) fn holds(self) -> Option<Superblock>
         ensures { result ≡ slot_holds self }
     {
         match self {
-            SlotRead::Unasked => MaybeSuperblock::Empty,
-            SlotRead::Awaited(_) => MaybeSuperblock::Empty,
-            SlotRead::Success(s) => MaybeSuperblock::Holds(s),
-            SlotRead::Corruption => MaybeSuperblock::Empty,
+            SlotRead::Success(s) => Some(s),
+            _ => None,
         }
     }
 
@@ -81,29 +60,18 @@ impl SlotRead {
         ensures { result ≡ slot_reads_differ self other }
     {
         match self {
-            SlotRead::Unasked => true,
-            SlotRead::Awaited(k) => {
-                let a = other.awaits(k);
-                !a
-            }
-            SlotRead::Success(_) => true,
-            SlotRead::Corruption => true,
+            SlotRead::Awaited(k) => !other.awaits(k),
+            _ => true,
         }
     }
 
     // How a read ends: damaged or ill formed, it leaves the slot corrupt.
-    pub(crate) fn of_read(read: SuperblockRead, g: Geometry) -> SlotRead
+    pub(crate) fn of_read(read: Option<Superblock>, g: Geometry) -> SlotRead
         ensures { result ≡ slot_read g read }
     {
         match read {
-            SuperblockRead::Whole(s) => {
-                let a = s.well_formed(g);
-                if a {
-                    return SlotRead::Success(s);
-                }
-                SlotRead::Corruption
-            }
-            SuperblockRead::Damaged => SlotRead::Corruption,
+            Some(s) if s.well_formed(g) => SlotRead::Success(s),
+            _ => SlotRead::Corruption,
         }
     }
 }

@@ -1,8 +1,5 @@
 -- Laws of the machine's definitions: what a reader of them need not read, and what the crates above cite.
 pub mod Answers
 pub mod Parts
-pub mod Found
-pub mod Initial
 pub mod Entries
 pub mod Memory
-pub mod Kinds

@@ -7,6 +7,7 @@ use Rattle.journal.specs.Memory.{ask_blocks}
 use Rattle.memory.specs.declared.Limits.{Limits}
 use Rattle.memory.specs.Limits.{ask_pending_lent}
 use Rattle.memory.specs.Replay.{ask_replay_lent}
+use Rattle.machine.specs.declared.Lent as slices
 
 -- pending bytes and lengths, pieces read while loading, replay bytes and lengths
 pub record Lent : Type 0 where
@@ -18,6 +19,10 @@ pub record Lent : Type 0 where
 
 abbrev pub lent : List ℕ → List ℕ → List ℕ → List ℕ → List ℕ → Lent
 lent bytes lens pieces rbytes rlens = record { bytes = bytes; lens = lens; pieces = pieces; rbytes = rbytes; rlens = rlens }
+
+-- what the code's slices hold
+abbrev pub lent_of : slices.Lent → Lent
+lent_of l = lent l.bytes.now l.lens.now l.pieces.now l.rbytes.now l.rlens.now
 
 -- question 1: N and T, pieces of N blocks, pending memory as large as the limits, replay memory of N blocks and as many lengths
 unfoldable pub ask_lent : Geometry → Limits → Lent → ℕ

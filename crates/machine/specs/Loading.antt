@@ -1,20 +1,19 @@
 -- The steps of a machine that loads, after questions 1 and 2: what each asks, and the machine after it. An answer is taken in every kind: awaited by
 -- nobody, it alters nothing.
-use Rattle.std.specs.Prelude.{ℕ, ◌*◌, Bool, true, false, cond, List, eqb, length, take}
+use Rattle.superblock.specs.declared.Superblock.{Superblock}
+use Rattle.std.specs.declared.option.Option as code
+use Rattle.std.specs.Prelude.{ℕ, ◌*◌, cond, List, eqb, length, take}
 use Rattle.laws.specs.Choice.{and_then}
 use Rattle.laws.specs.Cut.{flat, lengths}
 use Rattle.laws.specs.Splice.{splice}
 use Rattle.layout.specs.declared.Geometry.{Geometry}
 use Rattle.interval.specs.Interval.{interval}
-use Rattle.superblock.specs.declared.SuperblockRead.{SuperblockRead}
 use Rattle.superblock.specs.declared.JournalRead.{JournalRead}
 use Rattle.superblock.specs.declared.JournalRead.TheVariants as read
 use Rattle.superblock.specs.declared.DiskOp.{DiskOp}
 use Rattle.superblock.specs.declared.DiskOp.TheVariants as op
 use Rattle.journal.specs.Memory.{ask_size, copy_blocks}
 use Rattle.range.specs.Form.{all_entries}
-use Rattle.reader.specs.declared.answer.Scanned.{Scanned}
-use Rattle.reader.specs.declared.answer.Scanned.TheVariants as scan
 use Rattle.unpacker.specs.Unpack.{ask_unpack}
 use Rattle.loading.specs.declared.Paged.{Paged}
 use Rattle.loading.specs.Which.{ask_which}
@@ -74,10 +73,10 @@ page_in_superblock_req_machine m which id = with_superblocks m (page_in_superblo
 abbrev pub ask_page_in_superblock_resp_step : ℕ → ℕ
 ask_page_in_superblock_resp_step which = ask_which which
 
-abbrev pub page_in_superblock_resp_op : ℕ → ℕ → SuperblockRead → DiskOp
+abbrev pub page_in_superblock_resp_op : ℕ → ℕ → code.Option Superblock → DiskOp
 page_in_superblock_resp_op which id r = op.RespReadSuperblock id which r
 
-unfoldable pub page_in_superblock_resp_machine : Geometry → Machine → ℕ → ℕ → SuperblockRead → Machine
+unfoldable pub page_in_superblock_resp_machine : Geometry → Machine → ℕ → ℕ → code.Option Superblock → Machine
 page_in_superblock_resp_machine g m which id r =
     by_kind {A = Machine} m.kind (with_superblocks m (page_in_superblock_resp_next g m.superblocks which id r)) m m
 
@@ -119,15 +118,6 @@ loaded_replay_bytes m pieces rbytes = splice rbytes 0 (flat (all_entries (loaded
 
 abbrev pub loaded_replay_lens : Machine → List ℕ → List ℕ → List ℕ
 loaded_replay_lens m pieces rlens = splice rlens 0 (lengths (all_entries (loaded_bytes m pieces)))
-
--- of what was unpacked: the number of a no, and the entries
-unfoldable pub scan_refusal : Scanned → ℕ
-scan_refusal (scan.Total entries bytes) = 0
-scan_refusal (scan.Refused q) = q
-
-unfoldable pub scan_entries : Scanned → ℕ
-scan_entries (scan.Total entries bytes) = entries
-scan_entries (scan.Refused q) = 0
 
 -- ask again: 3, then 4 and 6
 unfoldable pub ask_ask_again_step : Machine → ℕ → ℕ

@@ -1,6 +1,8 @@
 -- The machine's record: a kind beside the records of the three kinds, and the sync requests, which all kinds have. Its parts put in place of
 -- others, and what a step answers.
-use Rattle.std.specs.Prelude.{ℕ, Bool, true, false, cond, eqb}
+use Rattle.std.specs.Prelude.{ℕ, cond, eqb, Ok, Err}
+use Rattle.refusal.specs.declared.Refusal.{Refusal}
+use Rattle.refusal.specs.Refusal.{refusal}
 use Rattle.superblock.specs.declared.Superblock.{Superblock}
 use Rattle.superblock.specs.declared.DiskOp.{DiskOp}
 use Rattle.tables.specs.declared.SyncTable.{SyncTable}
@@ -16,7 +18,6 @@ use Rattle.ready.specs.State.{loaded}
 use Rattle.machine.specs.declared.Kind.{Kind}
 use Rattle.machine.specs.declared.Kind.TheVariants as kind
 use Rattle.machine.specs.declared.Machine.{Machine}
-use Rattle.machine.specs.declared.MachineAnswer.TheVariants as answer
 use Rattle.machine.specs.declared.MachineStepped.{MachineStepped}
 
 -- document 01's limits: sync requests, and what pending memory holds
@@ -41,6 +42,9 @@ ask_loading_other m = by_kind {A = ℕ} m.kind 3 0 3
 
 abbrev pub ask_ready : Machine → ℕ
 ask_ready m = by_kind {A = ℕ} m.kind 3 3 0
+
+abbrev pub ask_kind : Kind → Machine → ℕ
+ask_kind k m = by_kind {A = ℕ} k (ask_loading_superblock m) (ask_loading_other m) (ask_ready m)
 
 -- m.(superblocks := x), and so for each part; a step into another kind sets the kind as well
 abbrev pub with_superblocks : Machine → LoadingSuperblock → Machine
@@ -78,12 +82,12 @@ initial_machine =
       sync = no_syncs;
     }
 
--- one number decides: 0 is the next machine with its disk operation; another is a refusal, with the machine as it was
-abbrev pub refused : Machine → ℕ → MachineStepped
-refused m q = record { answer = answer.Refused q; machine = m }
+-- one number decides: 0 is the next machine with its disk operation; another is its refusal, with the machine as it was
+abbrev pub refused : Machine → Refusal → MachineStepped
+refused m e = record { answer = Err e; machine = m }
 
 abbrev pub accepted : DiskOp → Machine → MachineStepped
-accepted op next = record { answer = answer.Next op; machine = next }
+accepted op next = record { answer = Ok op; machine = next }
 
 unfoldable pub answered : ℕ → DiskOp → Machine → Machine → MachineStepped
-answered q op next m = cond (eqb q 0) (accepted op next) (refused m q)
+answered q op next m = cond (eqb q 0) (accepted op next) (refused m (refusal q))

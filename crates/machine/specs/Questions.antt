@@ -1,5 +1,6 @@
--- Questions 1 and 2 of a machine, by parts; and what a look at pending memory finds, so that a step need not look again.
-use Rattle.std.specs.Prelude.{ℕ, Bool, true, false, cond, List, eqb}
+-- Questions 1 and 2 of a machine, by parts; and what a look at pending memory finds, so that a step need not look again. The answer is
+-- `ok_unless (ask_machine g l m) (bodies_of l.lens m)`.
+use Rattle.std.specs.Prelude.{ℕ, Bool, List}
 use Rattle.laws.specs.Choice.{also, and_then, ask}
 use Rattle.layout.specs.declared.Geometry.{Geometry}
 use Rattle.layout.specs.Geometry.{num_journal_blocks}
@@ -17,8 +18,6 @@ use Rattle.ready.specs.declared.Entries.{Entries}
 use Rattle.ready.specs.declared.Bodies.{Bodies}
 use Rattle.ready.specs.Inv.{ready_ok}
 use Rattle.machine.specs.declared.Machine.{Machine}
-use Rattle.machine.specs.declared.Asked.{Asked}
-use Rattle.machine.specs.declared.Asked.TheVariants as asked
 use Rattle.machine.specs.Machine.{most_sync_reqs, limits_of, by_kind}
 use Rattle.machine.specs.Lent.{Lent, ask_lent}
 
@@ -63,15 +62,3 @@ entry_bodies lens e = bodies (total lens e.frozen) (total lens e.pending)
 
 unfoldable pub bodies_of : List ℕ → Machine → Bodies
 bodies_of lens m = by_kind {A = Bodies} m.kind (bodies 0 0) (bodies 0 0) (entry_bodies lens m.ready.entries)
-
--- the answer: what was found, or a no
-unfoldable pub found : ℕ → Bodies → Asked
-found q b = cond (eqb q 0) (asked.Held b) (asked.Refused q)
-
-unfoldable pub refusal_of : Asked → ℕ
-refusal_of (asked.Held b) = 0
-refusal_of (asked.Refused q) = q
-
-unfoldable pub bodies_in : Asked → Bodies
-bodies_in (asked.Held b) = b
-bodies_in (asked.Refused q) = bodies 0 0

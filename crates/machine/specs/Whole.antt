@@ -1,11 +1,11 @@
 -- The machine's steps whole, in the order of 000's Step, as their promises cite them: what each call answers, and what it leaves in lent memory.
 -- Questions 1 and 2 come first, then the step's own.
+use Rattle.superblock.specs.declared.Superblock.{Superblock}
+use Rattle.std.specs.declared.option.Option as code
 use Rattle.std.specs.Prelude.{ℕ, List}
 use Rattle.laws.specs.Choice.{and_then, unless}
 use Rattle.layout.specs.declared.Geometry.{Geometry}
 use Rattle.layout.specs.declared.Location.{Location}
-use Rattle.superblock.specs.declared.MaybeId.{MaybeId}
-use Rattle.superblock.specs.declared.SuperblockRead.{SuperblockRead}
 use Rattle.superblock.specs.declared.JournalRead.{JournalRead}
 use Rattle.superblock.specs.declared.DiskOp.TheVariants as op
 use Rattle.journal.specs.Memory.{ask_blocks}
@@ -23,12 +23,12 @@ use Rattle.machine.specs.Sync.{ask_push_sync_req, push_sync_req_machine, ask_pop
 unfoldable pub ask_machine_out : Geometry → Lent → Machine → List ℕ → ℕ
 ask_machine_out g l m out = and_then (ask_blocks g out) (ask_machine g l m)
 
-unfoldable pub ask_write : Geometry → Lent → Machine → ℕ → MaybeId → List ℕ → ℕ
+unfoldable pub ask_write : Geometry → Lent → Machine → ℕ → code.Option ℕ → List ℕ → ℕ
 ask_write g l m id1 id2 out =
     and_then (ask_machine_out g l m out)
     (ask_write_back_journal_req_step g m id1 id2 (bodies_of l.lens m))
 
-abbrev pub write_back_journal_req : Geometry → Lent → Machine → ℕ → MaybeId → List ℕ → MachineStepped
+abbrev pub write_back_journal_req : Geometry → Lent → Machine → ℕ → code.Option ℕ → List ℕ → MachineStepped
 write_back_journal_req g l m id1 id2 out =
     answered
     (ask_write g l m id1 id2 out)
@@ -36,13 +36,13 @@ write_back_journal_req g l m id1 id2 out =
     (write_back_journal_req_machine m id1 id2 (bodies_of l.lens m))
     m
 
-abbrev pub written_out : Geometry → Lent → Machine → ℕ → MaybeId → List ℕ → List ℕ
+abbrev pub written_out : Geometry → Lent → Machine → ℕ → code.Option ℕ → List ℕ → List ℕ
 written_out g l m id1 id2 out = unless (ask_write g l m id1 id2 out) out (sent_range m (bodies_of l.lens m) l.bytes l.lens out 0)
 
-abbrev pub written_bytes : Geometry → Lent → Machine → ℕ → MaybeId → List ℕ → List ℕ
+abbrev pub written_bytes : Geometry → Lent → Machine → ℕ → code.Option ℕ → List ℕ → List ℕ
 written_bytes g l m id1 id2 out = unless (ask_write g l m id1 id2 out) l.bytes (moved_bytes m (bodies_of l.lens m) l.bytes)
 
-abbrev pub written_lens : Geometry → Lent → Machine → ℕ → MaybeId → List ℕ → List ℕ
+abbrev pub written_lens : Geometry → Lent → Machine → ℕ → code.Option ℕ → List ℕ → List ℕ
 written_lens g l m id1 id2 out = unless (ask_write g l m id1 id2 out) l.lens (moved_lens m (bodies_of l.lens m) l.lens)
 
 -- WriteBackJournalResp
@@ -116,7 +116,7 @@ page_in_superblock_req g l m which id =
     m
 
 -- PageInSuperblockResp
-abbrev pub page_in_superblock_resp : Geometry → Lent → Machine → ℕ → ℕ → SuperblockRead → MachineStepped
+abbrev pub page_in_superblock_resp : Geometry → Lent → Machine → ℕ → ℕ → code.Option Superblock → MachineStepped
 page_in_superblock_resp g l m which id r =
     answered
     (and_then (ask_machine g l m) (ask_page_in_superblock_resp_step which))

@@ -1,42 +1,36 @@
 -- The steps of a machine at work, after questions 1 and 2: what each asks, and the machine after it. An answer is taken in every kind: awaited by
 -- nobody, it alters nothing.
-use Rattle.std.specs.Prelude.{ℕ, ◌+◌, Bool, cond, List, eqb, take, drop}
+use Rattle.std.specs.declared.option.Option as code
+use Rattle.std.specs.Prelude.{ℕ, ◌+◌, Bool, cond, List, take, drop, None, Some, Result, Ok, Err}
 use Rattle.laws.specs.Choice.{ask, and_then}
+use Rattle.refusal.specs.declared.Refusal.{Refusal}
+use Rattle.refusal.specs.Refusal.{ok_unless, number_of}
 use Rattle.laws.specs.Splice.{splice, clipped}
 use Rattle.layout.specs.declared.Geometry.{Geometry}
 use Rattle.layout.specs.declared.Location.{Location}
 use Rattle.layout.specs.Journal.{journal_pos_add}
 use Rattle.superblock.specs.declared.Superblock.{Superblock}
-use Rattle.superblock.specs.declared.MaybeId.{MaybeId}
 use Rattle.superblock.specs.declared.DiskOp.{DiskOp}
 use Rattle.superblock.specs.declared.DiskOp.TheVariants as op
 use Rattle.tables.specs.declared.SyncTable.{SyncTable}
 use Rattle.tables.specs.SyncTable.{moved_syncs}
-use Rattle.memory.specs.declared.Count.{Count}
-use Rattle.memory.specs.declared.Counted.{Counted}
-use Rattle.memory.specs.declared.Counted.TheVariants as counted
-use Rattle.memory.specs.Answer as answers
+use Rattle.range.specs.declared.Count.{Count}
 use Rattle.memory.specs.Given.{memory, count_of, ask_given, ask_added}
 use Rattle.memory.specs.Replay.{is_next}
 use Rattle.writer.specs.Ring.{put_range}
 use Rattle.loading.specs.Which.{ask_which}
-use Rattle.ready.specs.declared.MaybeLocation.{MaybeLocation}
-use Rattle.ready.specs.declared.MaybeLocation.TheVariants as maybe
 use Rattle.ready.specs.declared.Bodies.{Bodies}
 use Rattle.ready.specs.declared.Entries.{Entries}
 use Rattle.ready.specs.declared.Ready.{Ready}
 use Rattle.ready.specs.declared.JournalWrite.{JournalWrite}
-use Rattle.ready.specs.declared.JournalWrite.TheVariants as write
-use Rattle.ready.specs.declared.NewSuperblock.{NewSuperblock}
-use Rattle.ready.specs.declared.NewSuperblock.TheVariants as new
 use Rattle.ready.specs.State.{count, none_frozen, none_in_memory, awaits_id, commit_slot, replay_left, sent, left}
-use Rattle.ready.specs.JournalSteps.{sent_blocks, ask_write_back_journal_req, write_back_journal_req, write_back_journal_req_next, write_back_journal_resp_next}
-use Rattle.ready.specs.CommitSteps.{ask_advance_log, advanced_log, advance_log, advance_log_next, ask_advance_location, advanced_location, advance_location, advance_location_next, write_back_superblock_resp_next}
+use Rattle.ready.specs.JournalSteps.{sent_blocks, ask_write_back_journal_req, write_back_journal_req_next, write_back_journal_resp_next}
+use Rattle.ready.specs.CommitSteps.{ask_advance_log, advanced_log, advance_log_next, ask_advance_location, advanced_location, advance_location_next, write_back_superblock_resp_next}
 use Rattle.ready.specs.FreezeSteps.{ask_freeze, freeze_next, ask_receive_frozen_loc, receive_frozen_loc_next}
 use Rattle.ready.specs.EntrySteps.{advanced, ask_advance, advance_next, replay_next}
 use Rattle.machine.specs.declared.Machine.{Machine}
-use Rattle.machine.specs.declared.journal_steps.SentRange.{SentRange}
-use Rattle.machine.specs.Machine.{limits_of, no_superblock, by_kind, ask_ready, with_ready, with_sync}
+use Rattle.machine.specs.declared.entry_steps.Added.{Added}
+use Rattle.machine.specs.Machine.{limits_of, by_kind, ask_ready, with_ready, with_sync}
 
 -- sync requests: State3 goes to State2 where entries are frozen or sent from memory, or a commit is requested with none there; State2 goes to
 -- State1 where a commit is on disk
@@ -47,7 +41,7 @@ abbrev pub syncs2to1 : SyncTable → SyncTable
 syncs2to1 t = moved_syncs 2 1 t
 
 -- WriteBackJournalReq: 3, then 6 and 8
-unfoldable pub ask_write_back_journal_req_step : Geometry → Machine → ℕ → MaybeId → Bodies → ℕ
+unfoldable pub ask_write_back_journal_req_step : Geometry → Machine → ℕ → code.Option ℕ → Bodies → ℕ
 ask_write_back_journal_req_step g m id1 id2 b =
     and_then (ask_ready m)
     (ask_write_back_journal_req g m.ready id1 id2 b)
@@ -56,37 +50,22 @@ ask_write_back_journal_req_step g m id1 id2 b =
 abbrev pub sent_start : Geometry → Machine → ℕ
 sent_start g m = journal_pos_add g m.ready.superblock.journalStart m.ready.writtenJournalLen
 
-abbrev pub write_back_journal_req_op : Geometry → Machine → ℕ → MaybeId → Bodies → DiskOp
+abbrev pub write_back_journal_req_op : Geometry → Machine → ℕ → code.Option ℕ → Bodies → DiskOp
 write_back_journal_req_op g m id1 id2 b = op.ReqWriteJournal id1 id2 (sent_start g m) (sent_blocks m.ready b)
 
 -- what is sent, a range or a commit, moves sync requests at State3, where it moves any
 unfoldable pub sent_sync : Bool → SyncTable → SyncTable
 sent_sync moves t = cond moves (syncs3to2 t) t
 
-unfoldable pub written_machine : Machine → ℕ → MaybeId → ℕ → Machine
+unfoldable pub written_machine : Machine → ℕ → code.Option ℕ → ℕ → Machine
 written_machine m id1 id2 written =
     with_sync (with_ready m (write_back_journal_req_next m.ready id1 id2 written))
     (sent_sync (none_frozen m.ready.entries) m.sync)
 
-abbrev pub write_back_journal_req_machine : Machine → ℕ → MaybeId → Bodies → Machine
+abbrev pub write_back_journal_req_machine : Machine → ℕ → code.Option ℕ → Bodies → Machine
 write_back_journal_req_machine m id1 id2 b = written_machine m id1 id2 (m.ready.writtenJournalLen + sent_blocks m.ready b)
 
--- the range as the code finds it, by its questions: a no of question 3 comes first
-abbrev pub write_after : ℕ → JournalWrite → JournalWrite
-write_after k w = cond (eqb k 0) w (write.Refused k)
-
-unfoldable pub journal_new : Geometry → Machine → ℕ → MaybeId → Bodies → JournalWrite
-journal_new g m id1 id2 b = write_after (ask_ready m) (write_back_journal_req g m.ready id1 id2 b)
-
-unfoldable pub write_refusal : JournalWrite → ℕ
-write_refusal (write.Refused q) = q
-write_refusal (write.Range start blocks written) = 0
-
-unfoldable pub range_in : JournalWrite → SentRange
-range_in (write.Refused q) = record { start = 0; blocks = 0; written = 0 }
-range_in (write.Range start blocks written) = record { start = start; blocks = blocks; written = written }
-
-abbrev pub range_op : ℕ → MaybeId → SentRange → DiskOp
+abbrev pub range_op : ℕ → code.Option ℕ → JournalWrite → DiskOp
 range_op id1 id2 range = op.ReqWriteJournal id1 id2 range.start range.blocks
 
 -- what is sent, and what is left of pending memory
@@ -122,24 +101,6 @@ commit_op m id new = op.ReqWriteSuperblock id (commit_slot m.ready) new
 unfoldable pub commit_requested : Machine → Ready → Machine
 commit_requested m ready = with_sync (with_ready m ready) (sent_sync (none_in_memory m.ready.entries) m.sync)
 
--- the superblock that is sent as the code finds it, by its questions: a no of question 3 comes first
-abbrev pub new_after : ℕ → NewSuperblock → NewSuperblock
-new_after k w = cond (eqb k 0) w (new.Refused k)
-
-unfoldable pub log_new : Geometry → Machine → NewSuperblock
-log_new g m = new_after (ask_ready m) (advance_log g m.ready)
-
-unfoldable pub location_new : Geometry → Machine → NewSuperblock
-location_new g m = new_after (ask_ready m) (advance_location g m.ready)
-
-unfoldable pub new_refusal : NewSuperblock → ℕ
-new_refusal (new.Is superblock) = 0
-new_refusal (new.Refused q) = q
-
-unfoldable pub new_in : NewSuperblock → Superblock
-new_in (new.Is superblock) = superblock
-new_in (new.Refused q) = no_superblock
-
 -- WriteBackSuperblockReq_AdvanceLog: 3 and 6
 unfoldable pub ask_advance_log_step : Geometry → Machine → ℕ
 ask_advance_log_step g m = and_then (ask_ready m) (ask_advance_log g m.ready)
@@ -155,9 +116,9 @@ unfoldable pub ask_advance_location_step : Geometry → Machine → ℕ
 ask_advance_location_step g m = and_then (ask_ready m) (ask_advance_location g m.ready)
 
 -- the location last received; the superblock's own where there is none, which question 6 refuses
-abbrev pub received_or : MaybeLocation → Location → Location
-received_or (maybe.Received loc) old = loc
-received_or maybe.NoLocation old = old
+abbrev pub received_or : code.Option Location → Location → Location
+received_or (Some loc) old = loc
+received_or None old = old
 
 abbrev pub new_location : Machine → Location
 new_location m = received_or m.ready.frozen.frozenLoc m.ready.superblock.indirectionTableLoc
@@ -201,25 +162,25 @@ unfoldable pub receive_frozen_loc_machine : Machine → Location → Machine
 receive_frozen_loc_machine m loc = with_ready m (receive_frozen_loc_next m.ready loc)
 
 -- Advance: 3, then 4 and 13 of the entries that the caller brings, which were counted; 6 and 8
-abbrev pub count_in : Counted → Count
-count_in (counted.Now c) = c
-count_in (counted.Refused q) = count 0 0
+abbrev pub count_in : Result Count Refusal → Count
+count_in (Ok c) = c
+count_in (Err e) = count 0 0
 
 -- those that the first k of what the caller brings are
-abbrev pub given_of : List ℕ → List ℕ → ℕ → Counted
-given_of brought sizes k = answers.counted (ask_added (memory brought sizes k)) (count_of (memory brought sizes k))
+abbrev pub given_of : List ℕ → List ℕ → ℕ → Result Count Refusal
+given_of brought sizes k = ok_unless (ask_added (memory brought sizes k)) (count_of (memory brought sizes k))
 
-unfoldable pub ask_advance_step : Machine → Bodies → Counted → ℕ
+unfoldable pub ask_advance_step : Machine → Bodies → Result Count Refusal → ℕ
 ask_advance_step m b given =
     and_then (ask_ready m)
-    (and_then (answers.refusal given)
+    (and_then (number_of given)
     (ask_advance (limits_of m) m.ready b.pending (count_in given)))
 
--- what pending memory holds then
-unfoldable pub advance_count : Machine → Bodies → Counted → Counted
-advance_count m b given = answers.counted (ask_advance_step m b given) (advanced m.ready b.pending (count_in given))
+-- the entries that are added, and what pending memory holds then
+abbrev pub added : Machine → Bodies → Count → Added
+added m b new = record { new = new; all = advanced m.ready b.pending new }
 
-unfoldable pub advance_machine : Machine → Bodies → Counted → Machine
+unfoldable pub advance_machine : Machine → Bodies → Result Count Refusal → Machine
 advance_machine m b given = with_ready m (advance_next m.ready (advanced m.ready b.pending (count_in given)).entries)
 
 abbrev pub appended_bytes : Bodies → Count → List ℕ → List ℕ → List ℕ
@@ -242,14 +203,6 @@ ask_replay_step m rbytes rlens brought sizes k =
 -- what is taken then
 abbrev pub taken_then : Entries → Count → Count
 taken_then e new = count (e.taken.entries + new.entries) (e.taken.bytes + new.bytes)
-
-unfoldable pub replay_given : Entries → (rbytes rlens brought sizes : List ℕ) → ℕ → Counted
-replay_given e rbytes rlens brought sizes k =
-    answers.counted (ask_replay_given e rbytes rlens brought sizes k) (taken_then e (count_of (memory brought sizes k)))
-
-unfoldable pub replay_count : Machine → (rbytes rlens brought sizes : List ℕ) → ℕ → Counted
-replay_count m rbytes rlens brought sizes k =
-    answers.counted (ask_replay_step m rbytes rlens brought sizes k) (taken_then m.ready.entries (count_of (memory brought sizes k)))
 
 unfoldable pub replay_machine : Machine → Count → Machine
 replay_machine m new = with_ready m (replay_next m.ready (taken_then m.ready.entries new))

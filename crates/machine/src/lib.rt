@@ -1,15 +1,16 @@
 // The commit machine (source 000), whole and alone: it knows no disk, and hands over what it asks of one as a disk operation. Its memory is lent beside it.
 // The public face:
 //   Machine, Kind                     the record: a kind beside the records of the three kinds, and the sync requests
+//   Lent                              the memory that is lent to it
 //   Machine::initial                  000's Init
 //   Machine::to_ready                 a machine at work by any record, for a caller that hands one in
-//   Machine::ask, Machine::ask_state  questions 1 and 2; what was found in pending memory
+//   Machine::ask, Machine::ask_state  questions 1 and 2, with what was found in pending memory and without
 //   the steps, in the order of 000's Step: write_back_journal_req, write_back_journal_resp, write_back_superblock_req_advance_log,
 //   write_back_superblock_req_advance_location, write_back_superblock_resp, page_in_journal_req, page_in_journal_resp,
 //   page_in_superblock_req, page_in_superblock_resp, finish_loading_superblock_phase, finish_loading_other_phase, freeze,
 //   receive_frozen_loc, advance, replay, push_sync_req, pop_sync_req, no_op; and ask_again
 //   send_range                        what a journal write does to lent memory
-//   MachineStepped, MachineAnswer     what a step answers: the next machine with its disk operation, or the number of a no and the machine as it was
+//   MachineStepped                    what a step answers: its disk operation and the next machine, or a no and the machine as it was
 // Each of these steps asks every question. One named `.._asked` is a part of a step for a caller that has asked questions 1 and 2 itself: it
 // asks the others and decides by value and on shared slices. Lent memory is then altered by functions that ask nothing; an add and the end of
 // loading, after which nothing is asked of a disk, alter it themselves, after their last yes. Every function is total.
@@ -28,12 +29,13 @@ mod whole_loading;
 mod whole_working;
 
 use loading::{LoadingOther, LoadingSuperblock};
-use ready::{Bodies, Ready};
+use ready::Ready;
+use refusal::Refusal;
 pub use sending::send_range;
 use superblock::DiskOp;
 use tables::SyncTable;
 
-#[derive(Clone, Copy)]
+#[derive(Clone, Copy, PartialEq, Eq)]
 pub enum Kind {
     LoadingSuperblock,
     LoadingOther,
@@ -50,22 +52,19 @@ pub struct Machine {
     pub sync: SyncTable,
 }
 
-// The next machine's disk operation, or the number of the question that was answered no. The machine beside it is the next one, or the one given.
+// What is lent to a machine: pending bytes and lengths, pieces read while loading, replay bytes and lengths. A step that alters some of it
+// takes the slices themselves.
 #[derive(Clone, Copy)]
-pub enum MachineAnswer {
-    Next(DiskOp),
-    Refused(u8),
+pub struct Lent<'a> {
+    pub bytes: &'a [u8],
+    pub lens: &'a [u16],
+    pub pieces: &'a [u8],
+    pub rbytes: &'a [u8],
+    pub rlens: &'a [u16],
 }
 
 #[derive(Clone, Copy)]
 pub struct MachineStepped {
-    pub answer: MachineAnswer,
+    pub answer: Result<DiskOp, Refusal>,
     pub machine: Machine,
-}
-
-// What was found in pending memory, where nothing is refused: the bytes of its entries.
-#[derive(Clone, Copy)]
-pub enum Asked {
-    Held(Bodies),
-    Refused(u8),
 }

@@ -1,97 +1,44 @@
 // Questions 1 and 2: the lent memory, and the state.
+#![tactic(auto, using(refusal::specs::Refusal::questions, laws::specs::Choice::tests), unfolding(laws::specs::Choice::and_then, laws::specs::Choice::ask, laws::specs::Choice::also, crate::specs::Lent::ask_lent, crate::specs::Questions::sync_ok, crate::specs::Questions::kind_ok, crate::specs::Questions::machine_ok, crate::specs::Questions::ask_entries, crate::specs::Questions::ask_held, crate::specs::Questions::ask_machine, crate::specs::Questions::bodies_of, crate::specs::Whole::ask_machine_out))]
+
 ghost use Rattle.std.specs.Prelude.{◌≡◌};
-ghost use Rattle.machine.specs.Lent.{lent, ask_lent};
-ghost use Rattle.machine.specs.Questions.{sync_ok, kind_ok, machine_ok, ask_entries, entry_bodies, ask_held, bodies_of, ask_machine, found, refusal_of, bodies_in};
+ghost use Rattle.refusal.specs.Refusal.{asked, ok_unless};
+ghost use Rattle.machine.specs.Lent.{lent_of, ask_lent};
+ghost use Rattle.machine.specs.Questions.{sync_ok, kind_ok, machine_ok, ask_entries, entry_bodies, ask_held, bodies_of, ask_machine};
 ghost use Rattle.machine.specs.Whole.{ask_machine_out};
 
-use super::{Asked, Kind, Machine};
+use super::{Kind, Lent, Machine};
 use journal::ask_blocks;
 use layout::Geometry;
-use memory::{Limits, PendingCount, ask_replay_lent, count_left, count_pending};
+use memory::{Limits, ask_replay_lent, count_left, count_pending};
 use ready::{Bodies, Entries};
+use refusal::Refusal;
 use tables::SyncTable;
 
-impl Asked {
-    // The refusal number, or 0.
-    pub fn refusal(self) -> u8
-        ensures { result ≡ refusal_of self }
-    {
-        match self {
-            Asked::Held(_) => 0,
-            Asked::Refused(q) => q,
-        }
-    }
-
-    // What was found; nothing where there was a no.
-    pub(crate) fn bodies(self) -> Bodies
-        ensures { result ≡ bodies_in self }
-    {
-        match self {
-            Asked::Held(bodies) => bodies,
-            Asked::Refused(_) => Bodies {
-                frozen: 0,
-                pending: 0,
-            },
-        }
-    }
-}
-
 // Question 1.
-fn ask_lent(
-    g: Geometry,
-    limits: Limits,
-    bytes: &[u8],
-    lens: &[u16],
-    pieces: &[u8],
-    rbytes: &[u8],
-    rlens: &[u16],
-) -> u8
-    ensures { result ≡ ask_lent g limits (lent bytes.now lens.now pieces.now rbytes.now rlens.now) }
+fn ask_lent(g: Geometry, limits: Limits, lent: Lent<'_>) -> Result<(), Refusal>
+    ensures { result ≡ asked (ask_lent g limits (lent_of lent.entry)) }
 {
-    let q = ask_blocks(g, pieces);
-    if q != 0 {
-        return q;
-    }
-    let p = limits.ask_lent(bytes.len(), lens.len());
-    if p != 0 {
-        return p;
-    }
-    ask_replay_lent(g.blocks, rbytes.len(), rlens.len())
+    ask_blocks(g, lent.pieces)?;
+    limits.ask_lent(lent.bytes.len(), lent.lens.len())?;
+    ask_replay_lent(g.blocks, lent.rbytes.len(), lent.rlens.len())
 }
 
 fn sync_ok(t: SyncTable) -> bool
     ensures { result ≡ sync_ok t }
 {
-    let a = t.ok(Machine::MOST_SYNC_REQS);
-    let b = t.valid();
-    a & b
+    t.ok(Machine::MOST_SYNC_REQS) && t.valid()
 }
 
 // Question 2 of entries in lent memory, and what was found there.
-fn held_entries(
-    g: Geometry,
-    limits: Limits,
-    e: Entries,
-    bytes: &[u8],
-    lens: &[u16],
-    rbytes: &[u8],
-    rlens: &[u16],
-) -> Asked
-    ensures { result ≡ found (ask_entries g limits bytes.now lens.now rbytes.now rlens.now e) (entry_bodies lens.now e) }
+fn held_entries(g: Geometry, limits: Limits, e: Entries, lent: Lent<'_>) -> Result<Bodies, Refusal>
+    ensures { result ≡ ok_unless (ask_entries g limits lent.entry.bytes.now lent.entry.lens.now lent.entry.rbytes.now lent.entry.rlens.now e) (entry_bodies lent.entry.lens.now e) }
 {
-    let p = count_pending(limits, bytes, lens, e.pending, e.frozen);
-    let PendingCount::Now { frozen, all } = p else {
-        let q = p.refusal();
-        return Asked::Refused(q);
-    };
-    let c = count_left(g.blocks, rbytes, rlens, e.replay, e.taken);
-    let q = c.refusal();
-    if q != 0 {
-        return Asked::Refused(q);
-    }
-    Asked::Held(Bodies {
-        frozen: frozen.bytes,
-        pending: all.bytes,
+    let p = count_pending(limits, lent.bytes, lent.lens, e.pending, e.frozen)?;
+    count_left(g.blocks, lent.rbytes, lent.rlens, e.replay, e.taken)?;
+    Ok(Bodies {
+        frozen: p.frozen.bytes,
+        pending: p.all.bytes,
     })
 }
 
@@ -100,93 +47,49 @@ impl Machine {
     pub fn ok(self, g: Geometry) -> bool
         ensures { result ≡ machine_ok g self }
     {
-        let sync = self.sync;
-        let a = sync_ok(sync);
-        let b = self.kind_ok(g);
-        a & b
+        sync_ok(self.sync) && self.kind_ok(g)
     }
 
     fn kind_ok(self, g: Geometry) -> bool
         ensures { result ≡ kind_ok g self }
     {
-        let kind = self.kind;
-        match kind {
-            Kind::LoadingSuperblock => {
-                let s = self.superblocks;
-                s.ok(g)
-            },
-            Kind::LoadingOther => {
-                let o = self.other;
-                o.ok(g)
-            },
-            Kind::Ready => {
-                let r = self.ready;
-                r.ok(g)
-            },
+        match self.kind {
+            Kind::LoadingSuperblock => self.superblocks.ok(g),
+            Kind::LoadingOther => self.other.ok(g),
+            Kind::Ready => self.ready.ok(g),
         }
     }
 
     // Question 2 of what lies in lent memory: a machine that loads holds no entries.
-    fn held(self, g: Geometry, bytes: &[u8], lens: &[u16], rbytes: &[u8], rlens: &[u16]) -> Asked
-        ensures { result ≡ found (ask_held g bytes.now lens.now rbytes.now rlens.now self) (bodies_of lens.now self) }
+    fn held(self, g: Geometry, lent: Lent<'_>) -> Result<Bodies, Refusal>
+        ensures { result ≡ ok_unless (ask_held g lent.entry.bytes.now lent.entry.lens.now lent.entry.rbytes.now lent.entry.rlens.now self) (bodies_of lent.entry.lens.now self) }
     {
-        let kind = self.kind;
-        match kind {
-            Kind::LoadingSuperblock => Asked::Held(Bodies {
+        match self.kind {
+            Kind::LoadingSuperblock | Kind::LoadingOther => Ok(Bodies {
                 frozen: 0,
                 pending: 0,
             }),
-            Kind::LoadingOther => Asked::Held(Bodies {
-                frozen: 0,
-                pending: 0,
-            }),
-            Kind::Ready => {
-                let limits = self.limits();
-                let r = self.ready;
-                let e = r.entries;
-                held_entries(g, limits, e, bytes, lens, rbytes, rlens)
-            },
+            Kind::Ready => held_entries(g, self.limits(), self.ready.entries, lent),
         }
     }
 
     // Questions 1 and 2, and what was found in pending memory.
-    pub fn ask(
-        self,
-        g: Geometry,
-        bytes: &[u8],
-        lens: &[u16],
-        pieces: &[u8],
-        rbytes: &[u8],
-        rlens: &[u16],
-    ) -> Asked
-        ensures { result ≡ found (ask_machine g (lent bytes.now lens.now pieces.now rbytes.now rlens.now) self) (bodies_of lens.now self) }
+    pub fn ask(self, g: Geometry, lent: Lent<'_>) -> Result<Bodies, Refusal>
+        ensures { result ≡ ok_unless (ask_machine g (lent_of lent.entry) self) (bodies_of lent.entry.lens.now self) }
     {
-        let limits = self.limits();
-        let q = ask_lent(g, limits, bytes, lens, pieces, rbytes, rlens);
-        if q != 0 {
-            return Asked::Refused(q);
+        ask_lent(g, self.limits(), lent)?;
+        if !self.ok(g) {
+            return Err(Refusal::State);
         }
-        let ok = self.ok(g);
-        if ok {
-            return self.held(g, bytes, lens, rbytes, rlens);
-        }
-        Asked::Refused(2)
+        self.held(g, lent)
     }
 
-    // The same as a number.
-    pub fn ask_state(
-        self,
-        g: Geometry,
-        bytes: &[u8],
-        lens: &[u16],
-        pieces: &[u8],
-        rbytes: &[u8],
-        rlens: &[u16],
-    ) -> u8
-        ensures { result ≡ ask_machine g (lent bytes.now lens.now pieces.now rbytes.now rlens.now) self }
+    // The same, without what was found.
+    pub fn ask_state(self, g: Geometry, lent: Lent<'_>) -> Result<(), Refusal>
+        ensures { result ≡ asked (ask_machine g (lent_of lent.entry) self) }
     {
-        let a = self.ask(g, bytes, lens, pieces, rbytes, rlens);
-        a.refusal()
+        self.ask(g, lent)?;
+        Ok(())
     }
 
     // The same with a buffer of N blocks that a range goes to.
@@ -194,18 +97,11 @@ impl Machine {
         self,
         g: Geometry,
         out: &[u8],
-        bytes: &[u8],
-        lens: &[u16],
-        pieces: &[u8],
-        rbytes: &[u8],
-        rlens: &[u16],
-    ) -> Asked
-        ensures { result ≡ found (ask_machine_out g (lent bytes.now lens.now pieces.now rbytes.now rlens.now) self out.now) (bodies_of lens.now self) }
+        lent: Lent<'_>,
+    ) -> Result<Bodies, Refusal>
+        ensures { result ≡ ok_unless (ask_machine_out g (lent_of lent.entry) self out.now) (bodies_of lent.entry.lens.now self) }
     {
-        let q = ask_blocks(g, out);
-        if q != 0 {
-            return Asked::Refused(q);
-        }
-        self.ask(g, bytes, lens, pieces, rbytes, rlens)
+        ask_blocks(g, out)?;
+        self.ask(g, lent)
     }
 }

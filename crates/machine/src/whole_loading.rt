@@ -1,16 +1,20 @@
 // The loading steps of the machine, whole: questions 1 and 2, then the others, then the lent memory. A refusal hands the machine back and alters
 // no lent byte.
+#![tactic(auto, using(refusal::specs::Refusal::questions, laws::specs::Choice::tests), unfolding(laws::specs::Choice::and_then, laws::specs::Choice::unless, crate::specs::Machine::answered, crate::specs::Whole::ask_paged, crate::specs::Whole::ask_finish, crate::specs::Loading::paged_pieces))]
+
 ghost use Rattle.std.specs.Prelude.{◌≡◌};
+ghost use Rattle.refusal.specs.Refusal.{asked};
 ghost use Rattle.machine.specs.Machine.{accepted};
-ghost use Rattle.machine.specs.Lent.{lent};
+ghost use Rattle.machine.specs.Lent.{lent, lent_of};
 ghost use Rattle.machine.specs.Loading.{paged_in, paged_pieces, page_in_journal_resp_op, page_in_journal_resp_machine};
 ghost use Rattle.machine.specs.Whole.{page_in_journal_req, ask_paged, page_in_journal_resp, page_in_journal_resp_pieces, page_in_superblock_req, page_in_superblock_resp, finish_loading_superblock_phase, finish_loading_other_phase, finished_bytes, finished_lens, ask_again};
 
 use super::loading_steps::ask_piece;
-use super::{Machine, MachineStepped};
+use super::{Lent, Machine, MachineStepped};
 use journal::copy_blocks;
 use layout::Geometry;
-use superblock::{DiskOp, JournalRead, SuperblockRead};
+use refusal::Refusal;
+use superblock::{DiskOp, JournalRead, Superblock};
 
 impl Machine {
     // PageInJournalReq.
@@ -19,17 +23,12 @@ impl Machine {
         g: Geometry,
         which: u64,
         id: u64,
-        bytes: &[u8],
-        lens: &[u16],
-        pieces: &[u8],
-        rbytes: &[u8],
-        rlens: &[u16],
+        lent: Lent<'_>,
     ) -> MachineStepped
-        ensures { result ≡ page_in_journal_req g (lent bytes.now lens.now pieces.now rbytes.now rlens.now) self which id }
+        ensures { result ≡ page_in_journal_req g (lent_of lent.entry) self which id }
     {
-        let q = self.ask_state(g, bytes, lens, pieces, rbytes, rlens);
-        if q != 0 {
-            return self.refused(q);
+        if let Err(no) = self.ask_state(g, lent) {
+            return self.refused(no);
         }
         self.page_in_journal_req_asked(g, which, id)
     }
@@ -50,9 +49,15 @@ impl Machine {
         ensures value { result ≡ page_in_journal_resp g (lent bytes.now lens.now pieces.old rbytes.now rlens.now) self id read new.now }
         ensures pieces_after { pieces.new ≡ page_in_journal_resp_pieces g (lent bytes.now lens.now pieces.old rbytes.now rlens.now) self id read new.now }
     {
-        let q = self.ask_paged(g, id, read, new, bytes, lens, pieces, rbytes, rlens);
-        if q != 0 {
-            return self.refused(q);
+        let lent = Lent {
+            bytes,
+            lens,
+            pieces,
+            rbytes,
+            rlens,
+        };
+        if let Err(no) = self.ask_paged(g, id, read, new, lent) {
+            return self.refused(no);
         }
         self.copy_paged(g, id, read, new, pieces);
         self.journal_read(id, read)
@@ -79,18 +84,11 @@ impl Machine {
         id: u64,
         read: JournalRead,
         new: &[u8],
-        bytes: &[u8],
-        lens: &[u16],
-        pieces: &[u8],
-        rbytes: &[u8],
-        rlens: &[u16],
-    ) -> u8
-        ensures { result ≡ ask_paged g (lent bytes.now lens.now pieces.now rbytes.now rlens.now) self id read new.now }
+        lent: Lent<'_>,
+    ) -> Result<(), Refusal>
+        ensures { result ≡ asked (ask_paged g (lent_of lent.entry) self id read new.now) }
     {
-        let q = self.ask_state(g, bytes, lens, pieces, rbytes, rlens);
-        if q != 0 {
-            return q;
-        }
+        self.ask_state(g, lent)?;
         let p = self.paged_in(g, id, read);
         ask_piece(p, new)
     }
@@ -101,17 +99,12 @@ impl Machine {
         g: Geometry,
         which: u64,
         id: u64,
-        bytes: &[u8],
-        lens: &[u16],
-        pieces: &[u8],
-        rbytes: &[u8],
-        rlens: &[u16],
+        lent: Lent<'_>,
     ) -> MachineStepped
-        ensures { result ≡ page_in_superblock_req g (lent bytes.now lens.now pieces.now rbytes.now rlens.now) self which id }
+        ensures { result ≡ page_in_superblock_req g (lent_of lent.entry) self which id }
     {
-        let q = self.ask_state(g, bytes, lens, pieces, rbytes, rlens);
-        if q != 0 {
-            return self.refused(q);
+        if let Err(no) = self.ask_state(g, lent) {
+            return self.refused(no);
         }
         self.page_in_superblock_req_asked(which, id)
     }
@@ -122,37 +115,23 @@ impl Machine {
         g: Geometry,
         which: u64,
         id: u64,
-        read: SuperblockRead,
-        bytes: &[u8],
-        lens: &[u16],
-        pieces: &[u8],
-        rbytes: &[u8],
-        rlens: &[u16],
+        read: Option<Superblock>,
+        lent: Lent<'_>,
     ) -> MachineStepped
-        ensures { result ≡ page_in_superblock_resp g (lent bytes.now lens.now pieces.now rbytes.now rlens.now) self which id read }
+        ensures { result ≡ page_in_superblock_resp g (lent_of lent.entry) self which id read }
     {
-        let q = self.ask_state(g, bytes, lens, pieces, rbytes, rlens);
-        if q != 0 {
-            return self.refused(q);
+        if let Err(no) = self.ask_state(g, lent) {
+            return self.refused(no);
         }
         self.page_in_superblock_resp_asked(g, which, id, read)
     }
 
     // FinishLoadingSuperblockPhase.
-    pub fn finish_loading_superblock_phase(
-        self,
-        g: Geometry,
-        bytes: &[u8],
-        lens: &[u16],
-        pieces: &[u8],
-        rbytes: &[u8],
-        rlens: &[u16],
-    ) -> MachineStepped
-        ensures { result ≡ finish_loading_superblock_phase g (lent bytes.now lens.now pieces.now rbytes.now rlens.now) self }
+    pub fn finish_loading_superblock_phase(self, g: Geometry, lent: Lent<'_>) -> MachineStepped
+        ensures { result ≡ finish_loading_superblock_phase g (lent_of lent.entry) self }
     {
-        let q = self.ask_state(g, bytes, lens, pieces, rbytes, rlens);
-        if q != 0 {
-            return self.refused(q);
+        if let Err(no) = self.ask_state(g, lent) {
+            return self.refused(no);
         }
         self.finish_loading_superblock_phase_asked()
     }
@@ -171,29 +150,25 @@ impl Machine {
         ensures rbytes_after { rbytes.new ≡ finished_bytes g (lent bytes.now lens.now pieces.now rbytes.old rlens.old) self }
         ensures rlens_after { rlens.new ≡ finished_lens g (lent bytes.now lens.now pieces.now rbytes.old rlens.old) self }
     {
-        let q = self.ask_state(g, bytes, lens, pieces, rbytes, rlens);
-        if q != 0 {
-            return self.refused(q);
+        let lent = Lent {
+            bytes,
+            lens,
+            pieces,
+            rbytes,
+            rlens,
+        };
+        if let Err(no) = self.ask_state(g, lent) {
+            return self.refused(no);
         }
         self.finish_loading_other_phase_asked(g, pieces, rbytes, rlens)
     }
 
     // Ask again.
-    pub fn ask_again(
-        self,
-        g: Geometry,
-        which: u64,
-        bytes: &[u8],
-        lens: &[u16],
-        pieces: &[u8],
-        rbytes: &[u8],
-        rlens: &[u16],
-    ) -> MachineStepped
-        ensures { result ≡ ask_again g (lent bytes.now lens.now pieces.now rbytes.now rlens.now) self which }
+    pub fn ask_again(self, g: Geometry, which: u64, lent: Lent<'_>) -> MachineStepped
+        ensures { result ≡ ask_again g (lent_of lent.entry) self which }
     {
-        let q = self.ask_state(g, bytes, lens, pieces, rbytes, rlens);
-        if q != 0 {
-            return self.refused(q);
+        if let Err(no) = self.ask_state(g, lent) {
+            return self.refused(no);
         }
         self.ask_again_asked(which)
     }

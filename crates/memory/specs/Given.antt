@@ -1,4 +1,5 @@
 -- The entries that a lent memory holds: its bytes, its lengths and a count. And the entries that a caller brings.
+use Rattle.std.specs.Prelude.{None, Some, Ok, Err}
 use Rattle.std.specs.Prelude.{ℕ, ◌*◌, ◌≤◌, true, ◌≡◌, List, length, leb}
 use Rattle.std.proofs.Common.{sym, ◌∙◌, ap, arith, leb-true, le-leb}
 use Rattle.laws.specs.Choice.{also, and_then, and_then_left, and_then_right, and_then_both, ask, also_left, also_right, also_both, ask_yes, ask_holds, ask_fails, not_so, false_true}
@@ -6,10 +7,9 @@ use Rattle.range.specs.Form.{Entry, most_entry_length}
 use Rattle.range.specs.Blank.{none_blank}
 use Rattle.range.specs.Memory.{view, total}
 use Rattle.lengths.specs.Entries.{Entries, entries_ok, entries_held, entries_facts, facts_entries, entries_bytes, entries_nothing, entries_small}
-use Rattle.lengths.specs.declared.Held.TheVariants as held
-use Rattle.memory.specs.declared.Count.{Count}
-use Rattle.memory.specs.declared.Counted.TheVariants as answer
-use Rattle.memory.specs.Answer.{counted, counted_done, counted_no}
+use Rattle.range.specs.declared.Count.{Count}
+use Rattle.refusal.specs.declared.Refusal.TheVariants as no
+use Rattle.refusal.specs.Refusal.{ok_unless, unless_ok}
 
 pub record Memory : Type 0 where
   pub bytes : List ℕ
@@ -74,14 +74,14 @@ given_small e q =
 
 -- the answers, from what was held
 module _ (e : Memory) where
-  pub given_no : held.Nothing ≡ entries_held (length e.bytes) e.lens 0 e.count → answer.Refused 4 ≡ counted (ask_given e) (count_of e)
+  pub given_no : None ≡ entries_held (length e.bytes) e.lens 0 e.count → Err no.Argument ≡ ok_unless (ask_given e) (count_of e)
   unfolding ask_given
   given_no h =
-      counted_no _ 4 _ (omega arith)
+      ap (λ (q : ℕ). ok_unless q (count_of e))
       (sym (ask_fails 4 _ (not_so _ (λ t. false_true (sym (entries_nothing _ _ _ _ h) ∙ also_right _ _ t)))))
 
-  pub given_yes : (t : ℕ) → e.count ≤ most_given → held.Bytes t ≡ entries_held (length e.bytes) e.lens 0 e.count
-      → answer.Now (record { entries = e.count; bytes = t }) ≡ counted (ask_given e) (count_of e)
+  pub given_yes : (t : ℕ) → e.count ≤ most_given → Some t ≡ entries_held (length e.bytes) e.lens 0 e.count
+      → Ok (record { entries = e.count; bytes = t }) ≡ ok_unless (ask_given e) (count_of e)
   given_yes t few h =
       let f = entries_bytes _ _ _ _ t h in
-      ap (λ (b : ℕ). answer.Now (record { entries = e.count; bytes = b })) f.1 ∙ counted_done _ _ (asked_given e (record { few = few; held = f.0 }))
+      ap (λ (b : ℕ). Ok (record { entries = e.count; bytes = b })) f.1 ∙ sym (unless_ok _ _ (asked_given e (record { few = few; held = f.0 })))

@@ -1,5 +1,4 @@
 pub mod Limits
-pub mod Answer
 pub mod Given
 pub mod Pending
 pub mod Replay

@@ -6,7 +6,7 @@ use borrow.Author.Tests.{leb-true, le-leb, lt-leb, eqb-true, eq-eqb}
 use Rattle.laws.specs.Choice.{also, ask, also_left, also_right, also_both, ask_yes, ask_holds, ask_fails}
 use Rattle.range.specs.Form.{most_entries}
 use Rattle.memory.specs.declared.Limits.{Limits}
-use Rattle.memory.specs.declared.Count.{Count}
+use Rattle.range.specs.declared.Count.{Count}
 
 abbrev pub most_bytes : ℕ
 most_bytes = 65536

@@ -1,15 +1,16 @@
 -- Pending memory: the questions of its steps, what each step leaves in lent memory, and its answer.
-use Rattle.std.specs.Prelude.{ℕ, ◌+◌, ◌-◌, length, take, drop, leb}
+use Rattle.std.specs.Prelude.{ℕ, ◌+◌, ◌-◌, Result, length, take, drop, leb}
 use Rattle.laws.specs.Choice.{ask, and_then, unless}
 use Rattle.laws.specs.Splice.{splice}
 use Rattle.range.specs.Memory.{total}
 use Rattle.lengths.specs.Entries.{entries_ok}
 use Rattle.memory.specs.declared.Limits.{Limits}
-use Rattle.memory.specs.declared.Count.{Count}
-use Rattle.memory.specs.declared.Counted.{Counted}
+use Rattle.range.specs.declared.Count.{Count}
+use Rattle.memory.specs.declared.PendingCount.{PendingCount}
 use Rattle.memory.specs.Limits.{ask_pending_lent, ask_room}
-use Rattle.memory.specs.Answer.{counted}
-use Rattle.memory.specs.Given.{Memory, bytes_of, ask_given}
+use Rattle.refusal.specs.declared.Refusal.{Refusal}
+use Rattle.refusal.specs.Refusal.{ok_unless}
+use Rattle.memory.specs.Given.{Memory, bytes_of, count_of, ask_given}
 
 -- questions 1 and 2 of pending memory: the lent lengths are the limits, so entries whose lengths are there are few enough
 unfoldable pub ask_pending : Limits → Memory → ℕ
@@ -24,6 +25,10 @@ ask_frozen l m frozen = and_then (ask_pending l m) (ask 2 (leb frozen m.count))
 -- the first k entries
 abbrev pub first_of : Memory → ℕ → Count
 first_of m k = record { entries = k; bytes = total m.lens k }
+
+-- and what all of m holds beside them
+abbrev pub counts_of : Memory → ℕ → PendingCount
+counts_of m frozen = record { frozen = first_of m frozen; all = count_of m }
 
 -- entries e come behind those of m
 abbrev pub both : Memory → Memory → Count
@@ -46,8 +51,8 @@ appended m e =
 unfoldable pub append_lent : Limits → Memory → Memory → Memory
 append_lent l m e = unless (ask_append l m e) m (appended m e)
 
-unfoldable pub append_answer : Limits → Memory → Memory → Counted
-append_answer l m e = counted (ask_append l m e) (both m e)
+unfoldable pub append_answer : Limits → Memory → Memory → Result Count Refusal
+append_answer l m e = ok_unless (ask_append l m e) (both m e)
 
 -- the first k entries of m leave
 unfoldable pub ask_take_front : Limits → Memory → ℕ → ℕ
@@ -67,5 +72,5 @@ others m k = record { entries = m.count - k; bytes = bytes_of m - total m.lens k
 unfoldable pub take_front_lent : Limits → Memory → ℕ → Memory
 take_front_lent l m k = unless (ask_take_front l m k) m (front_taken m k)
 
-unfoldable pub take_front_answer : Limits → Memory → ℕ → Counted
-take_front_answer l m k = counted (ask_take_front l m k) (others m k)
+unfoldable pub take_front_answer : Limits → Memory → ℕ → Result Count Refusal
+take_front_answer l m k = ok_unless (ask_take_front l m k) (others m k)

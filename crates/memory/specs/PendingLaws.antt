@@ -1,5 +1,6 @@
 -- Laws of pending memory: what a yes tells, the answers, and what a step leaves in lent memory.
-use Rattle.std.specs.Prelude.{ℕ, ◌+◌, ◌-◌, ◌≤◌, ◌<◌, Bool, true, false, ◌≡◌, refl, List, length, take, drop, leb}
+use Rattle.std.specs.Prelude.{None, Some, Ok, Err}
+use Rattle.std.specs.Prelude.{ℕ, ◌+◌, ◌-◌, ◌≤◌, ◌<◌, Bool, true, false, ◌≡◌, refl, ⊤, List, length, take, drop, leb}
 use Rattle.std.proofs.Math.Path.{sym, ap}
 use Rattle.std.proofs.Common.{◌∙◌, subst, arith, length-take-le}
 use borrow.Author.Tests.{leb-true, le-leb}
@@ -9,15 +10,15 @@ use Rattle.laws.specs.Splice.{splice, clipped, clipped_fits}
 use Rattle.range.specs.Form.{most_entries}
 use Rattle.range.specs.Memory.{total}
 use Rattle.lengths.specs.Entries.{Entries, part, entries_held, entries_ok, entries_facts, facts_entries, entries_bytes, entries_nothing, entries_first, entries_rest, entries_join, part_sum}
-use Rattle.lengths.specs.declared.Held.TheVariants as held
 use Rattle.memory.specs.declared.Limits.{Limits}
-use Rattle.memory.specs.declared.Count.{Count}
-use Rattle.memory.specs.declared.Counted.TheVariants as answer
-use Rattle.memory.specs.declared.PendingCount.TheVariants as pending
+use Rattle.range.specs.declared.Count.{Count}
+use Rattle.memory.specs.declared.PendingCount.{PendingCount}
+use Rattle.refusal.specs.declared.Refusal.{Refusal}
+use Rattle.refusal.specs.declared.Refusal.TheVariants as no
+use Rattle.refusal.specs.Refusal.{ok_unless, asked, unless_ok, yes, yes_value, no_told, no_some}
 use Rattle.memory.specs.Limits.{most_bytes, ask_pending_lent, PendingLent, lent_asked, asked_lent, ask_room, room_asked, room_yes}
-use Rattle.memory.specs.Answer.{counted, counted_now, counted_refused, counted_done, counted_no, pending_counted, pending_now, pending_done, pending_no}
 use Rattle.memory.specs.Given.{Memory, bytes_of, count_of, ask_given, Given, given_asked, asked_given, given_small}
-use Rattle.memory.specs.Pending.{ask_pending, ask_frozen, first_of, ask_append, both, appended, append_lent, append_answer, ask_take_front, front_taken, take_front_lent, take_front_answer}
+use Rattle.memory.specs.Pending.{ask_pending, ask_frozen, first_of, counts_of, ask_append, both, appended, append_lent, append_answer, ask_take_front, front_taken, others, take_front_lent, take_front_answer}
 
 -- pending memory that questions 1 and 2 accept
 pub record Pending (l : Limits) (m : Memory) : Type 0 where
@@ -80,31 +81,30 @@ module _ (l : Limits) (m : Memory) (frozen : ℕ) where
   asked_frozen q h = and_then_both _ _ q (ask_holds 2 _ (le-leb frozen m.count h))
 
   -- the ways out: the lent lengths
-  pub count_unlent : (q : ℕ) → q ≡ ask_pending_lent l (length m.bytes) (length m.lens) → (q ≡ 0 → ⊥)
-      → pending.Refused q ≡ pending_counted (ask_frozen l m frozen) (first_of m frozen) (count_of m)
+  pub count_unlent : (r : Refusal) → Err r ≡ asked (ask_pending_lent l (length m.bytes) (length m.lens)) → Err r ≡ ok_unless (ask_frozen l m frozen) (counts_of m frozen)
   unfolding ask_frozen ask_pending
-  count_unlent q e h =
-      pending_no _ q _ _ h
-      (sym (and_then_first _ _ (λ z. h (e ∙ and_then_left _ _ z)) ∙ and_then_first _ _ (λ z. h (e ∙ z)) ∙ sym e))
+  count_unlent r h =
+      let n = no_some _ r _ h in
+      no_told _ _ r _ _ h (and_then_first _ _ (λ z. n (and_then_left _ _ z)) ∙ and_then_first _ _ n)
 
   module _ (q : ask_pending_lent l (length m.bytes) (length m.lens) ≡ 0) where
     count_no : (Entries l.bytes m.lens 0 m.count → frozen ≤ m.count → ⊥)
-        → pending.Refused 2 ≡ pending_counted (ask_frozen l m frozen) (first_of m frozen) (count_of m)
+        → Err no.State ≡ ok_unless (ask_frozen l m frozen) (counts_of m frozen)
     unfolding ask_frozen ask_pending
     count_no h =
-        pending_no _ 2 _ _ (omega arith)
+        ap (λ (n : ℕ). ok_unless n (counts_of m frozen))
         (sym
         (ap (λ (n : ℕ). and_then n (ask 2 (leb frozen m.count))) (and_then_done _ _ q)
         ∙ two_parts _ _ (λ t u. h (entries_facts _ _ _ _ t) (leb-true frozen m.count u))))
 
     -- the frozen entries
-    pub count_front_no : held.Nothing ≡ entries_held l.bytes m.lens 0 frozen
-        → pending.Refused 2 ≡ pending_counted (ask_frozen l m frozen) (first_of m frozen) (count_of m)
+    pub count_front_no : None ≡ entries_held l.bytes m.lens 0 frozen
+        → Err no.State ≡ ok_unless (ask_frozen l m frozen) (counts_of m frozen)
     count_front_no e =
         count_no
         (λ f h. false_true (sym (entries_nothing _ _ _ _ e) ∙ facts_entries _ _ _ _ (entries_first l.bytes m.lens 0 frozen m.count f (omega arith) h)))
 
-    module _ (first : ℕ) (front : held.Bytes first ≡ entries_held l.bytes m.lens 0 frozen) where
+    module _ (first : ℕ) (front : Some first ≡ entries_held l.bytes m.lens 0 frozen) where
       first_held : Entries l.bytes m.lens 0 frozen
       first_held = (entries_bytes _ _ _ _ _ front).0
 
@@ -115,8 +115,8 @@ module _ (l : Limits) (m : Memory) (frozen : ℕ) where
       count_first = omega (arith, first_is, first_held.fit)
 
       -- the others
-      pub count_back_no : held.Nothing ≡ entries_held (l.bytes - first) m.lens frozen m.count
-          → pending.Refused 2 ≡ pending_counted (ask_frozen l m frozen) (first_of m frozen) (count_of m)
+      pub count_back_no : None ≡ entries_held (l.bytes - first) m.lens frozen m.count
+          → Err no.State ≡ ok_unless (ask_frozen l m frozen) (counts_of m frozen)
       count_back_no e =
           count_no
           (λ f h.
@@ -125,7 +125,7 @@ module _ (l : Limits) (m : Memory) (frozen : ℕ) where
           ∙ ap (λ (n : ℕ). entries_ok (l.bytes - n) m.lens frozen m.count) first_is
           ∙ facts_entries _ _ _ _ (entries_rest l.bytes m.lens 0 frozen m.count f (omega arith) h)))
 
-      module _ (rest : ℕ) (back : held.Bytes rest ≡ entries_held (l.bytes - first) m.lens frozen m.count) where
+      module _ (rest : ℕ) (back : Some rest ≡ entries_held (l.bytes - first) m.lens frozen m.count) where
         rest_held : Entries (l.bytes - first) m.lens frozen m.count
         rest_held = (entries_bytes _ _ _ _ _ back).0
 
@@ -135,13 +135,12 @@ module _ (l : Limits) (m : Memory) (frozen : ℕ) where
         pub count_rest : first + rest ≤ l.bytes
         count_rest = omega (arith, count_first, rest_is, rest_held.fit)
 
-        pub count_all : pending.Now (record { entries = frozen; bytes = first }) (record { entries = m.count; bytes = first + rest })
-            ≡ pending_counted (ask_frozen l m frozen) (first_of m frozen) (count_of m)
+        pub count_all : Ok (record { frozen = record { entries = frozen; bytes = first }; all = record { entries = m.count; bytes = first + rest } })
+            ≡ ok_unless (ask_frozen l m frozen) (counts_of m frozen)
         unfolding ask_pending
         count_all =
-            (λ i. pending.Now (record { entries = frozen; bytes = first_is i }) (record { entries = m.count; bytes = sums i }))
-            ∙ pending_done _ _ _
-            (asked_frozen (and_then_both _ _ q (ask_holds 2 _ (facts_entries _ _ _ _ whole))) rest_held.order)
+            (λ i. Ok (record { frozen = record { entries = frozen; bytes = first_is i }; all = record { entries = m.count; bytes = sums i } }))
+            ∙ sym (unless_ok _ _ (asked_frozen (and_then_both _ _ q (ask_holds 2 _ (facts_entries _ _ _ _ whole))) rest_held.order))
           where
             whole : Entries l.bytes m.lens 0 m.count
             whole =
@@ -190,81 +189,76 @@ module _ (l : Limits) (m e : Memory) (a : Appends l m e) where
 
 module _ (l : Limits) (m e : Memory) where
   -- a refusal: the answer, and lent memory as it was
-  append_no : (r : ℕ) → (r ≡ 0 → ⊥) → r ≡ ask_append l m e
-      → (answer.Refused r ≡ append_answer l m e) × ((m.bytes ≡ (append_lent l m e).bytes) × (m.lens ≡ (append_lent l m e).lens))
+  append_no : (r : Refusal) → Err r ≡ ok_unless (ask_append l m e) (both m e) → (Err r ≡ append_answer l m e) × ((m.bytes ≡ (append_lent l m e).bytes) × (m.lens ≡ (append_lent l m e).lens))
   unfolding append_answer append_lent
-  append_no r h q =
-      let kept = sym (unless_kept (ask_append l m e) m (appended m e) (λ z. h (q ∙ z))) in
-      (counted_no _ r _ h q, (ap (λ (o : Memory). o.bytes) kept, ap (λ (o : Memory). o.lens) kept))
+  append_no r h =
+      let kept = sym (unless_kept (ask_append l m e) m (appended m e) (no_some _ r _ h)) in
+      (h, (ap (λ (o : Memory). o.bytes) kept, ap (λ (o : Memory). o.lens) kept))
 
   -- by questions 1 and 2, as pending memory was counted
-  pub append_pending : (r : ℕ) → (ask_frozen l m 0 ≡ 0 → ⊥) × (r ≡ ask_frozen l m 0)
-      → (answer.Refused r ≡ append_answer l m e) × ((m.bytes ≡ (append_lent l m e).bytes) × (m.lens ≡ (append_lent l m e).lens))
+  pub append_pending : (r : Refusal) → Err r ≡ ok_unless (ask_frozen l m 0) (counts_of m 0) → (Err r ≡ append_answer l m e) × ((m.bytes ≡ (append_lent l m e).bytes) × (m.lens ≡ (append_lent l m e).lens))
   unfolding ask_append
-  append_pending r f =
-      append_no r (λ z. f.0 (sym f.1 ∙ z)) (f.1 ∙ frozen_none l m 0 ∙ sym (and_then_first _ _ (λ z. f.0 (frozen_none l m 0 ∙ z))))
+  append_pending r h =
+      append_no r (no_told _ _ r _ _ h (and_then_first _ _ (λ z. no_some _ r _ h (frozen_none l m 0 ∙ z)) ∙ sym (frozen_none l m 0)))
 
-  module _ (a b : Count) (h : pending.Now b a ≡ pending_counted (ask_frozen l m 0) (first_of m 0) (count_of m)) where
-    pub append_held : (ask_pending l m ≡ 0) × (a ≡ count_of m)
-    append_held = let f = pending_now _ _ _ _ _ h in (sym (frozen_none l m 0) ∙ f.0, f.2)
+  module _ (p : PendingCount) (h : Ok p ≡ ok_unless (ask_frozen l m 0) (counts_of m 0)) where
+    pub append_held : (ask_pending l m ≡ 0) × (p.all ≡ count_of m)
+    append_held = (sym (frozen_none l m 0) ∙ yes _ _ _ h, ap (λ (c : PendingCount). c.all) (yes_value _ _ _ h))
 
     -- by question 4
-    pub append_given : (r : ℕ) → answer.Refused r ≡ counted (ask_given e) (count_of e)
-        → (answer.Refused r ≡ append_answer l m e) × ((m.bytes ≡ (append_lent l m e).bytes) × (m.lens ≡ (append_lent l m e).lens))
+    pub append_given : (r : Refusal) → Err r ≡ ok_unless (ask_given e) (count_of e) → (Err r ≡ append_answer l m e) × ((m.bytes ≡ (append_lent l m e).bytes) × (m.lens ≡ (append_lent l m e).lens))
     unfolding ask_append
-    append_given r g =
-        let f = counted_refused _ _ _ g in
-        append_no r (λ z. f.0 (sym f.1 ∙ z)) (f.1 ∙ sym (and_then_done _ _ append_held.0 ∙ and_then_first _ _ f.0))
+    append_given r g = append_no r (no_told _ _ r _ _ g (and_then_done _ _ append_held.0 ∙ and_then_first _ _ (no_some _ r _ g)))
 
-    module _ (c : Count) (g : answer.Now c ≡ counted (ask_given e) (count_of e)) where
-      after_is : ◌≡◌ {A = Count} (record { entries = a.entries + c.entries; bytes = a.bytes + c.bytes }) (both m e)
-      after_is = λ i. record { entries = (append_held.1 i).entries + ((counted_now _ _ _ g).1 i).entries; bytes = (append_held.1 i).bytes + ((counted_now _ _ _ g).1 i).bytes }
+    module _ (c : Count) (g : Ok c ≡ ok_unless (ask_given e) (count_of e)) where
+      after_is : ◌≡◌ {A = Count} (record { entries = p.all.entries + c.entries; bytes = p.all.bytes + c.bytes }) (both m e)
+      after_is = λ i. record { entries = (append_held.1 i).entries + ((yes_value _ _ _ g) i).entries; bytes = (append_held.1 i).bytes + ((yes_value _ _ _ g) i).bytes }
 
       -- what they would be together fits 64 bits
-      pub append_sums : (a.entries + c.entries ≤ 2048) × (a.bytes + c.bytes ≤ 131072)
+      pub append_sums : (p.all.entries + c.entries ≤ 2048) × (p.all.bytes + c.bytes ≤ 131072)
       append_sums =
-          let p = pending_small l m append_held.0 in
-          let k = counted_now _ _ _ g in
-          let few = (given_asked e k.0).few in
-          let small = given_small e k.0 in
+          let s = pending_small l m append_held.0 in
+          let k = yes _ _ _ g in
+          let few = (given_asked e k).few in
+          let small = given_small e k in
           (omega (arith, ap (λ (x : Count). x.entries) after_is), omega (arith, ap (λ (x : Count). x.bytes) after_is))
 
-      number : ask_append l m e ≡ ask_room l (both m e)
+      number : ask_append l m e ≡ ask_room l (record { entries = p.all.entries + c.entries; bytes = p.all.bytes + c.bytes })
       unfolding ask_append
-      number = and_then_done _ _ append_held.0 ∙ and_then_done _ _ (counted_now _ _ _ g).0
+      number = and_then_done _ _ append_held.0 ∙ and_then_done _ _ (yes _ _ _ g) ∙ ap (ask_room l) (sym after_is)
 
       -- by question 8
-      pub append_full : (r : ℕ) → (r ≡ 0 → ⊥) → r ≡ ask_room l (record { entries = a.entries + c.entries; bytes = a.bytes + c.bytes })
-          → (answer.Refused r ≡ append_answer l m e) × ((m.bytes ≡ (append_lent l m e).bytes) × (m.lens ≡ (append_lent l m e).lens))
-      append_full r k q = append_no r k (q ∙ ap (ask_room l) after_is ∙ sym number)
+      pub append_full : (r : Refusal) → Err r ≡ asked (ask_room l (record { entries = p.all.entries + c.entries; bytes = p.all.bytes + c.bytes }))
+          → (Err r ≡ append_answer l m e) × ((m.bytes ≡ (append_lent l m e).bytes) × (m.lens ≡ (append_lent l m e).lens))
+      append_full r k = append_no r (no_told _ _ r _ _ k number)
 
       -- all was answered yes: the answer, and the two writes
-      pub append_done : (r : ℕ) (x y : List ℕ) → r ≡ ask_room l (record { entries = a.entries + c.entries; bytes = a.bytes + c.bytes }) → r ≡ 0
-          → x ≡ clipped m.bytes a.bytes (take c.bytes e.bytes) → y ≡ clipped m.lens a.entries (take c.entries e.lens)
-          → (answer.Now (record { entries = a.entries + c.entries; bytes = a.bytes + c.bytes }) ≡ append_answer l m e)
+      pub append_done : (u : ⊤) (x y : List ℕ) → Ok u ≡ asked (ask_room l (record { entries = p.all.entries + c.entries; bytes = p.all.bytes + c.bytes }))
+          → x ≡ clipped m.bytes p.all.bytes (take c.bytes e.bytes) → y ≡ clipped m.lens p.all.entries (take c.entries e.lens)
+          → (Ok (record { entries = p.all.entries + c.entries; bytes = p.all.bytes + c.bytes }) ≡ append_answer l m e)
           × ((x ≡ (append_lent l m e).bytes) × (y ≡ (append_lent l m e).lens))
       unfolding append_answer append_lent
-      append_done r x y q z hx hy = (
-        ap answer.Now after_is ∙ counted_done _ _ asked,
+      append_done u x y q hx hy = (
+        ap Ok after_is ∙ sym (unless_ok _ _ met),
         (hx ∙ bytes ∙ ap (λ (o : Memory). o.bytes) done, hy ∙ lens ∙ ap (λ (o : Memory). o.lens) done),
       )
         where
-          asked : ask_append l m e ≡ 0
-          asked = number ∙ ap (ask_room l) (sym after_is) ∙ sym q ∙ z
+          met : ask_append l m e ≡ 0
+          met = number ∙ yes _ _ _ q
 
           all : Appends l m e
-          all = append_asked l m e asked
+          all = append_asked l m e met
 
           done : appended m e ≡ unless (ask_append l m e) m (appended m e)
-          done = sym (unless_done _ _ _ asked)
+          done = sym (unless_done _ _ _ met)
 
           new : c ≡ count_of e
-          new = (counted_now _ _ _ g).1
+          new = yes_value _ _ _ g
 
-          bytes : clipped m.bytes a.bytes (take c.bytes e.bytes) ≡ (appended m e).bytes
+          bytes : clipped m.bytes p.all.bytes (take c.bytes e.bytes) ≡ (appended m e).bytes
           bytes = (λ i. clipped m.bytes (append_held.1 i).bytes (take (new i).bytes e.bytes)) ∙ write_bytes_fits l m e all
 
-          lens : clipped m.lens a.entries (take c.entries e.lens) ≡ (appended m e).lens
+          lens : clipped m.lens p.all.entries (take c.entries e.lens) ≡ (appended m e).lens
           lens = (λ i. clipped m.lens (append_held.1 i).entries (take (new i).entries e.lens)) ∙ write_lens_fits l m e all
 
 -- taking from the front
@@ -273,12 +267,11 @@ module _ (l : Limits) (m : Memory) (k : ℕ) where
   unfolding ask_take_front
   front_asked q = (pending_asked l m (and_then_left _ _ q), leb-true k m.count (ask_yes 4 _ (omega arith) (and_then_right _ _ q)))
 
-  front_no : (r : ℕ) → (r ≡ 0 → ⊥) → r ≡ ask_take_front l m k
-      → (answer.Refused r ≡ take_front_answer l m k) × ((m.bytes ≡ (take_front_lent l m k).bytes) × (m.lens ≡ (take_front_lent l m k).lens))
+  front_no : (r : Refusal) → Err r ≡ ok_unless (ask_take_front l m k) (others m k) → (Err r ≡ take_front_answer l m k) × ((m.bytes ≡ (take_front_lent l m k).bytes) × (m.lens ≡ (take_front_lent l m k).lens))
   unfolding take_front_answer take_front_lent
-  front_no r h q =
-      let kept = sym (unless_kept (ask_take_front l m k) m (front_taken m k) (λ z. h (q ∙ z))) in
-      (counted_no _ r _ h q, (ap (λ (o : Memory). o.bytes) kept, ap (λ (o : Memory). o.lens) kept))
+  front_no r h =
+      let kept = sym (unless_kept (ask_take_front l m k) m (front_taken m k) (no_some _ r _ h)) in
+      (h, (ap (λ (o : Memory). o.bytes) kept, ap (λ (o : Memory). o.lens) kept))
 
   -- as pending memory was counted, by as many of the first ones as there are
   module _ (first : ℕ) (few : first ≤ m.count) where
@@ -286,24 +279,24 @@ module _ (l : Limits) (m : Memory) (k : ℕ) where
     unfolding ask_frozen
     asked_is = ap (and_then (ask_pending l m)) (ask_holds 2 _ (le-leb first m.count few)) ∙ and_then_end (ask_pending l m)
 
-    pub front_unheld : (r : ℕ) → (ask_frozen l m first ≡ 0 → ⊥) × (r ≡ ask_frozen l m first)
-        → (answer.Refused r ≡ take_front_answer l m k) × ((m.bytes ≡ (take_front_lent l m k).bytes) × (m.lens ≡ (take_front_lent l m k).lens))
+    pub front_unheld : (r : Refusal) → Err r ≡ ok_unless (ask_frozen l m first) (counts_of m first) → (Err r ≡ take_front_answer l m k) × ((m.bytes ≡ (take_front_lent l m k).bytes) × (m.lens ≡ (take_front_lent l m k).lens))
     unfolding ask_take_front
-    front_unheld r f =
-        front_no r (λ z. f.0 (sym f.1 ∙ z)) (f.1 ∙ asked_is ∙ sym (and_then_first _ _ (λ z. f.0 (asked_is ∙ z))))
+    front_unheld r h = front_no r (no_told _ _ r _ _ h (and_then_first _ _ (λ z. no_some _ r _ h (asked_is ∙ z)) ∙ sym asked_is))
 
-    module _ (gone all : Count) (h : pending.Now gone all ≡ pending_counted (ask_frozen l m first) (first_of m first) (count_of m)) where
-      counts : (ask_pending l m ≡ 0) × (gone ≡ first_of m first) × (all ≡ count_of m)
-      counts = let f = pending_now _ _ _ _ _ h in (sym asked_is ∙ f.0, f.1, f.2)
+    module _ (p : PendingCount) (h : Ok p ≡ ok_unless (ask_frozen l m first) (counts_of m first)) where
+      counts : (ask_pending l m ≡ 0) × (p.frozen ≡ first_of m first) × (p.all ≡ count_of m)
+      counts =
+          let v = yes_value _ _ _ h in
+          (sym asked_is ∙ yes _ _ _ h, ap (λ (c : PendingCount). c.frozen) v, ap (λ (c : PendingCount). c.all) v)
 
-      pub front_past : m.count < k
-          → (answer.Refused 4 ≡ take_front_answer l m k) × ((m.bytes ≡ (take_front_lent l m k).bytes) × (m.lens ≡ (take_front_lent l m k).lens))
+      pub front_past : m.count < k → (Err no.Argument ≡ take_front_answer l m k) × ((m.bytes ≡ (take_front_lent l m k).bytes) × (m.lens ≡ (take_front_lent l m k).lens))
       unfolding ask_take_front
       front_past n =
-          front_no 4 (omega arith) (sym (and_then_done _ _ counts.0 ∙ ask_fails 4 _ (not_so _ (λ t. let j = leb-true k m.count t in omega arith))))
+          front_no no.Argument
+          (ap (λ (q : ℕ). ok_unless q (others m k)) (sym (and_then_done _ _ counts.0 ∙ ask_fails 4 _ (not_so _ (λ t. let j = leb-true k m.count t in omega arith)))))
 
       -- the first ones take no more than all
-      pub front_less : (gone.entries ≤ all.entries) × (gone.bytes ≤ all.bytes)
+      pub front_less : (p.frozen.entries ≤ p.all.entries) × (p.frozen.bytes ≤ p.all.bytes)
       front_less =
           let g = counts.1 in
           let a = counts.2 in (
@@ -312,13 +305,13 @@ module _ (l : Limits) (m : Memory) (k : ℕ) where
           )
 
       pub front_done : (x y : List ℕ) → first ≡ k
-          → x ≡ splice m.bytes 0 (take (all.bytes - gone.bytes) (drop gone.bytes m.bytes))
-          → y ≡ splice m.lens 0 (take (all.entries - gone.entries) (drop gone.entries m.lens))
-          → (answer.Now (record { entries = all.entries - gone.entries; bytes = all.bytes - gone.bytes }) ≡ take_front_answer l m k)
+          → x ≡ splice m.bytes 0 (take (p.all.bytes - p.frozen.bytes) (drop p.frozen.bytes m.bytes))
+          → y ≡ splice m.lens 0 (take (p.all.entries - p.frozen.entries) (drop p.frozen.entries m.lens))
+          → (Ok (record { entries = p.all.entries - p.frozen.entries; bytes = p.all.bytes - p.frozen.bytes }) ≡ take_front_answer l m k)
           × ((x ≡ (take_front_lent l m k).bytes) × (y ≡ (take_front_lent l m k).lens))
       unfolding take_front_answer take_front_lent ask_take_front
       front_done x y e hx hy = (
-        (λ i. answer.Now (record { entries = (a i).entries - (g i).entries; bytes = (a i).bytes - (g i).bytes })) ∙ counted_done _ _ asked,
+        (λ i. Ok (record { entries = (a i).entries - (g i).entries; bytes = (a i).bytes - (g i).bytes })) ∙ sym (unless_ok _ _ met),
         (
           hx
               ∙ (λ i. splice m.bytes 0 (take ((a i).bytes - (g i).bytes) (drop (g i).bytes m.bytes)))
@@ -329,14 +322,14 @@ module _ (l : Limits) (m : Memory) (k : ℕ) where
         ),
       )
         where
-          g : gone ≡ first_of m k
+          g : p.frozen ≡ first_of m k
           g = counts.1 ∙ ap (first_of m) e
 
-          a : all ≡ count_of m
+          a : p.all ≡ count_of m
           a = counts.2
 
-          asked : and_then (ask_pending l m) (ask 4 (leb k m.count)) ≡ 0
-          asked = and_then_both _ _ counts.0 (ask_holds 4 _ (le-leb k m.count (omega (arith, e, few))))
+          met : and_then (ask_pending l m) (ask 4 (leb k m.count)) ≡ 0
+          met = and_then_both _ _ counts.0 (ask_holds 4 _ (le-leb k m.count (omega (arith, e, few))))
 
           done : front_taken m k ≡ unless (and_then (ask_pending l m) (ask 4 (leb k m.count))) m (front_taken m k)
-          done = sym (unless_done _ _ _ asked)
+          done = sym (unless_done _ _ _ met)

@@ -1,15 +1,15 @@
 -- Replay memory: N blocks of bytes and as many lengths, of whose entries the first ones are taken. The state is what is left, and nothing
 -- lent changes.
-use Rattle.std.specs.Prelude.{ℕ, ◌+◌, ◌*◌, ◌-◌, Bool, List, length, take, drop, leb, eqb}
+use Rattle.std.specs.Prelude.{ℕ, ◌+◌, ◌*◌, ◌-◌, Bool, Result, List, length, take, drop, leb, eqb}
 use Rattle.laws.specs.Choice.{also, ask, and_then}
 use Rattle.laws.specs.Fold.{sum, same}
 use Rattle.layout.specs.Geometry.{block_size, most_blocks}
 use Rattle.range.specs.Form.{Entry}
 use Rattle.range.specs.Memory.{view}
 use Rattle.lengths.specs.Entries.{part, entries_ok}
-use Rattle.memory.specs.declared.Count.{Count}
-use Rattle.memory.specs.declared.Counted.{Counted}
-use Rattle.memory.specs.Answer.{counted}
+use Rattle.range.specs.declared.Count.{Count}
+use Rattle.refusal.specs.declared.Refusal.{Refusal}
+use Rattle.refusal.specs.Refusal.{ok_unless}
 use Rattle.memory.specs.Given.{Memory, bytes_of, count_of, ask_given}
 
 -- question 1: N is 1 to 4,096, and N blocks of bytes and as many lengths are lent
@@ -62,5 +62,5 @@ ask_next blocks m taken e =
 abbrev pub taken_then : Count → Memory → Count
 taken_then taken e = record { entries = taken.entries + e.count; bytes = taken.bytes + bytes_of e }
 
-unfoldable pub next_answer : ℕ → Memory → Count → Memory → Counted
-next_answer blocks m taken e = counted (ask_next blocks m taken e) (taken_then taken e)
+unfoldable pub next_answer : ℕ → Memory → Count → Memory → Result Count Refusal
+next_answer blocks m taken e = ok_unless (ask_next blocks m taken e) (taken_then taken e)

@@ -15,7 +15,7 @@ use Rattle.laws.specs.Cut.{flat, lengths, length_flat, length_lengths}
 use Rattle.range.specs.Form.{Entry, most_entry_length, ok_length}
 use Rattle.range.specs.Memory.{view, total, total_front, length_view, lengths_view, flat_view, view_same, view_take, view_drop, view_none, view_entries}
 use Rattle.lengths.specs.Entries.{Entries, part, part_is, part_sum, entries_rest}
-use Rattle.memory.specs.declared.Count.{Count}
+use Rattle.range.specs.declared.Count.{Count}
 use Rattle.memory.specs.Given.{Memory, memory, bytes_of, entries_of, ask_given, Given, given_asked}
 use Rattle.memory.specs.Replay.{left_entries, is_next, next_of_replay, ask_replay, ask_next, taken_then}
 use Rattle.memory.specs.ReplayLaws.{Left, Replay, replay_asked, asked_replay}

@@ -1,4 +1,5 @@
 -- Laws of replay memory: what a yes tells, and the answers.
+use Rattle.std.specs.Prelude.{None, Some, Ok, Err}
 use Rattle.std.specs.Prelude.{ℕ, ◌+◌, ◌*◌, ◌-◌, ◌≤◌, ◌<◌, Bool, true, false, ◌&&◌, ◌≡◌, List, length, take, drop}
 use Rattle.std.proofs.Math.Path.{sym, ap}
 use Rattle.std.proofs.Common.{◌∙◌, arith, leb-true, le-leb, eqb-true, eq-eqb}
@@ -6,13 +7,12 @@ use Rattle.laws.specs.Choice.{also, and_also, also_left, also_right, also_both, 
 use Rattle.laws.specs.Fold.{same}
 use Rattle.layout.specs.Geometry.{block_size, most_blocks}
 use Rattle.lengths.specs.Entries.{Entries, entries_held, entries_facts, facts_entries, entries_bytes, entries_nothing}
-use Rattle.lengths.specs.declared.Held.TheVariants as held
-use Rattle.memory.specs.declared.Count.{Count}
-use Rattle.memory.specs.declared.Counted.{Counted}
-use Rattle.memory.specs.declared.Counted.TheVariants as answer
-use Rattle.memory.specs.Answer.{counted, counted_now, counted_refused, counted_done, counted_no}
+use Rattle.range.specs.declared.Count.{Count}
+use Rattle.refusal.specs.declared.Refusal.{Refusal}
+use Rattle.refusal.specs.declared.Refusal.TheVariants as no
+use Rattle.refusal.specs.Refusal.{ok_unless, unless_ok, yes, yes_value, no_told, no_some}
 use Rattle.memory.specs.Given.{Memory, count_of, ask_given, given_asked, given_small}
-use Rattle.memory.specs.Replay.{replay_lent, ask_replay_lent, left_of, left_ok, ask_replay, is_next, next_of_replay, ask_next, next_answer}
+use Rattle.memory.specs.Replay.{replay_lent, ask_replay_lent, left_of, left_ok, ask_replay, is_next, next_of_replay, ask_next, taken_then, next_answer}
 
 -- question 1
 pub record ReplayLent (blocks bytes lens : ℕ) : Type 0 where
@@ -80,26 +80,26 @@ asked_replay blocks m taken r =
 
 -- the ways out of question 2
 module _ (blocks : ℕ) (m : Memory) (taken : Count) (q : ask_replay_lent blocks (length m.bytes) (length m.lens) ≡ 0) where
-  left_refused : (Left m taken → ⊥) → answer.Refused 2 ≡ counted (ask_replay blocks m taken) (left_of m taken)
+  left_refused : (Left m taken → ⊥) → Err no.State ≡ ok_unless (ask_replay blocks m taken) (left_of m taken)
   unfolding ask_replay
   left_refused h =
-      counted_no _ 2 _ (omega arith) (sym (and_then_done _ _ q ∙ ask_fails 2 _ (not_so _ (λ t. h (left_facts m taken t)))))
+      ap (λ (n : ℕ). ok_unless n (left_of m taken)) (sym (and_then_done _ _ q ∙ ask_fails 2 _ (not_so _ (λ t. h (left_facts m taken t)))))
 
-  pub left_past : length m.bytes < taken.bytes → answer.Refused 2 ≡ counted (ask_replay blocks m taken) (left_of m taken)
+  pub left_past : length m.bytes < taken.bytes → Err no.State ≡ ok_unless (ask_replay blocks m taken) (left_of m taken)
   left_past h = left_refused (λ f. let k = f.behind in omega arith)
 
-  pub left_no : held.Nothing ≡ entries_held (length m.bytes - taken.bytes) m.lens taken.entries m.count
-      → answer.Refused 2 ≡ counted (ask_replay blocks m taken) (left_of m taken)
+  pub left_no : None ≡ entries_held (length m.bytes - taken.bytes) m.lens taken.entries m.count
+      → Err no.State ≡ ok_unless (ask_replay blocks m taken) (left_of m taken)
   left_no h = left_refused (λ f. false_true (sym (entries_nothing _ _ _ _ h) ∙ facts_entries _ _ _ _ f.held))
 
   pub left_yes : (t : ℕ) → taken.bytes ≤ length m.bytes
-      → held.Bytes t ≡ entries_held (length m.bytes - taken.bytes) m.lens taken.entries m.count
-      → answer.Now (record { entries = m.count - taken.entries; bytes = t }) ≡ counted (ask_replay blocks m taken) (left_of m taken)
+      → Some t ≡ entries_held (length m.bytes - taken.bytes) m.lens taken.entries m.count
+      → Ok (record { entries = m.count - taken.entries; bytes = t }) ≡ ok_unless (ask_replay blocks m taken) (left_of m taken)
   unfolding ask_replay
   left_yes t b h =
       let f = entries_bytes _ _ _ _ t h in
-      ap (λ (n : ℕ). answer.Now (record { entries = m.count - taken.entries; bytes = n })) f.1
-      ∙ counted_done _ _ (and_then_both _ _ q (ask_holds 2 _ (facts_left m taken (record { behind = b; held = f.0 }))))
+      ap (λ (n : ℕ). Ok (record { entries = m.count - taken.entries; bytes = n })) f.1
+      ∙ sym (unless_ok _ _ (and_then_both _ _ q (ask_holds 2 _ (facts_left m taken (record { behind = b; held = f.0 })))))
 
 -- the test, from what was compared
 pub next_test : (bytes lens : List ℕ) (left : ℕ) (taken : Count) (bodies sizes : List ℕ) (new : Count) (a b : Bool) → new.entries ≤ left
@@ -111,32 +111,28 @@ next_test bytes lens left taken bodies sizes new a b h ha hb = and_also a b ∙ 
 
 -- the answer of a replay step, in the order of its questions
 module _ (blocks : ℕ) (m : Memory) (taken : Count) (e : Memory) where
-  pub next_unheld : (r : Counted) (n : ℕ) → r ≡ answer.Refused n → r ≡ counted (ask_replay blocks m taken) (left_of m taken) → r ≡ next_answer blocks m taken e
+  pub next_unheld : (r : Refusal) → Err r ≡ ok_unless (ask_replay blocks m taken) (left_of m taken) → Err r ≡ next_answer blocks m taken e
   unfolding next_answer ask_next
-  next_unheld r n t h =
-      let f = counted_refused _ _ _ (sym t ∙ h) in
-      t ∙ counted_no _ n _ (λ z. f.0 (sym f.1 ∙ z)) (f.1 ∙ sym (and_then_first _ _ f.0))
+  next_unheld r h = no_told _ _ r _ _ h (and_then_first _ _ (no_some _ r _ h))
 
-  module _ (left : Count) (h : answer.Now left ≡ counted (ask_replay blocks m taken) (left_of m taken)) where
+  module _ (left : Count) (h : Ok left ≡ ok_unless (ask_replay blocks m taken) (left_of m taken)) where
     asked : ask_replay blocks m taken ≡ 0
-    asked = (counted_now _ _ _ h).0
+    asked = yes _ _ _ h
 
     left_is : left.entries ≡ m.count - taken.entries
-    left_is = ap (λ (c : Count). c.entries) (counted_now _ _ _ h).1
+    left_is = ap (λ (c : Count). c.entries) (yes_value _ _ _ h)
 
-    pub next_ungiven : (r : Counted) (n : ℕ) → r ≡ answer.Refused n → r ≡ counted (ask_given e) (count_of e) → r ≡ next_answer blocks m taken e
+    pub next_ungiven : (r : Refusal) → Err r ≡ ok_unless (ask_given e) (count_of e) → Err r ≡ next_answer blocks m taken e
     unfolding next_answer ask_next
-    next_ungiven r n t g =
-        let f = counted_refused _ _ _ (sym t ∙ g) in
-        t ∙ counted_no _ n _ (λ z. f.0 (sym f.1 ∙ z)) (f.1 ∙ sym (and_then_done _ _ asked ∙ and_then_first _ _ f.0))
+    next_ungiven r g = no_told _ _ r _ _ g (and_then_done _ _ asked ∙ and_then_first _ _ (no_some _ r _ g))
 
-    module _ (new : Count) (g : answer.Now new ≡ counted (ask_given e) (count_of e)) where
+    module _ (new : Count) (g : Ok new ≡ ok_unless (ask_given e) (count_of e)) where
       new_is : new ≡ count_of e
-      new_is = (counted_now _ _ _ g).1
+      new_is = yes_value _ _ _ g
 
       number : ask_next blocks m taken e ≡ ask 6 (next_of_replay m taken e)
       unfolding ask_next
-      number = and_then_done _ _ asked ∙ and_then_done _ _ (counted_now _ _ _ g).0
+      number = and_then_done _ _ asked ∙ and_then_done _ _ (yes _ _ _ g)
 
       test_is : (b : Bool) → b ≡ is_next m.bytes m.lens left.entries taken e.bytes e.lens new → b ≡ next_of_replay m taken e
       test_is b t = t ∙ (λ i. is_next m.bytes m.lens (left_is i) taken e.bytes e.lens (new_is i))
@@ -149,19 +145,19 @@ module _ (blocks : ℕ) (m : Memory) (taken : Count) (e : Memory) where
           let left = r.left in
           let order = left.held.order in
           let there = left.held.there in
-          let q4 = (counted_now _ _ _ g).0 in
+          let q4 = (yes _ _ _ g) in
           let few = (given_asked e q4).few in
           let small = given_small e q4 in
           (omega (arith, ap (λ (c : Count). c.entries) new_is), omega (arith, ap (λ (c : Count). c.bytes) new_is))
 
       pub next_no : (b : Bool) → b ≡ is_next m.bytes m.lens left.entries taken e.bytes e.lens new → b ≡ false
-          → answer.Refused 6 ≡ next_answer blocks m taken e
+          → Err no.Condition ≡ next_answer blocks m taken e
       unfolding next_answer
-      next_no b t z = counted_no _ 6 _ (omega arith) (sym (number ∙ ask_fails 6 _ (sym (test_is b t) ∙ z)))
+      next_no b t z = ap (λ (n : ℕ). ok_unless n (taken_then taken e)) (sym (number ∙ ask_fails 6 _ (sym (test_is b t) ∙ z)))
 
       pub next_yes : (b : Bool) → b ≡ is_next m.bytes m.lens left.entries taken e.bytes e.lens new → b ≡ true
-          → answer.Now (record { entries = taken.entries + new.entries; bytes = taken.bytes + new.bytes }) ≡ next_answer blocks m taken e
+          → Ok (record { entries = taken.entries + new.entries; bytes = taken.bytes + new.bytes }) ≡ next_answer blocks m taken e
       unfolding next_answer
       next_yes b t z =
-          (λ i. answer.Now (record { entries = taken.entries + (new_is i).entries; bytes = taken.bytes + (new_is i).bytes }))
-          ∙ counted_done _ _ (number ∙ ask_holds 6 _ (sym (test_is b t) ∙ z))
+          (λ i. Ok (record { entries = taken.entries + (new_is i).entries; bytes = taken.bytes + (new_is i).bytes }))
+          ∙ sym (unless_ok _ _ (number ∙ ask_holds 6 _ (sym (test_is b t) ∙ z)))

@@ -1,6 +1,5 @@
 // Entries of zeros only, looked for among those that a caller brings.
-ghost use Rattle.std.specs.Prelude.{not, ◌≡◌, ◌≤◌, length};
-ghost use Rattle.laws.specs.Choice.{also};
+ghost use Rattle.std.specs.Prelude.{◌≡◌, ◌≤◌, length};
 ghost use Rattle.laws.specs.Cut.{cut};
 ghost use Rattle.laws.specs.Fold.{sum};
 ghost use Rattle.range.specs.Blank.{blank, none_blank};
@@ -23,12 +22,6 @@ fn is_blank(entry: &[u8]) -> bool
     zeros(entry)
 }
 
-fn and_some(ok: bool, zero: bool) -> bool
-    ensures { result ≡ also ok (not zero) }
-{
-    ok & !zero
-}
-
 // Has each entry a byte that isn't 0?
 pub(crate) fn none_blank(bodies: &[u8], sizes: &[u16]) -> bool
     requires { sum sizes.now ≤ length bodies.now }
@@ -36,13 +29,10 @@ pub(crate) fn none_blank(bodies: &[u8], sizes: &[u16]) -> bool
 {
     let mut ok = true;
     let mut at = 0;
-    let mut i = 0;
-    while i < sizes.len() {
-        let end = at + sizes[i] as usize;
-        let zero = is_blank(&bodies[at..end]);
-        ok = and_some(ok, zero);
+    for &size in sizes {
+        let end = at + usize::from(size);
+        ok &= !is_blank(&bodies[at..end]);
         at = end;
-        i += 1;
     }
     ok
 }

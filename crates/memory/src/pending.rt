@@ -1,14 +1,15 @@
 // Pending memory: the entries lie from its front on, the frozen ones first, and new ones come behind them.
 ghost use Rattle.std.specs.Prelude.{◌≡◌, take, drop};
 ghost use Rattle.laws.specs.Splice.{splice, clipped};
-ghost use Rattle.memory.specs.Answer.{pending_counted};
-ghost use Rattle.memory.specs.Given.{memory, count_of};
-ghost use Rattle.memory.specs.Pending.{first_of, ask_frozen, append_answer, append_lent, take_front_answer, take_front_lent};
+ghost use Rattle.refusal.specs.Refusal.{ok_unless};
+ghost use Rattle.memory.specs.Given.{memory};
+ghost use Rattle.memory.specs.Pending.{ask_frozen, counts_of, append_answer, append_lent, take_front_answer, take_front_lent};
 
 use super::given::count_given;
-use super::{Count, Counted, Limits, PendingCount};
-use lengths::{Held, entries_held};
-use runs::{lesser, move_bytes, move_lengths, write_bytes, write_lengths};
+use super::{Count, Limits, PendingCount};
+use lengths::entries_held;
+use refusal::Refusal;
+use runs::write;
 
 // Questions 1 and 2 of pending memory that holds n entries, the first of them frozen; and what it holds.
 pub fn count_pending(
@@ -17,22 +18,13 @@ pub fn count_pending(
     lens: &[u16],
     n: u64,
     frozen: u64,
-) -> PendingCount
-    ensures { result ≡ pending_counted (ask_frozen limits (memory bytes.now lens.now n) frozen) (first_of (memory bytes.now lens.now n) frozen) (count_of (memory bytes.now lens.now n)) }
+) -> Result<PendingCount, Refusal>
+    ensures { result ≡ ok_unless (ask_frozen limits (memory bytes.now lens.now n) frozen) (counts_of (memory bytes.now lens.now n) frozen) }
 {
-    let q = limits.ask_lent(bytes.len(), lens.len());
-    if q != 0 {
-        return PendingCount::Refused(q);
-    }
-    let front = entries_held(lens, 0, frozen, limits.bytes);
-    let Held::Bytes(first) = front else {
-        return PendingCount::Refused(2);
-    };
-    let back = entries_held(lens, frozen, n, limits.bytes - first);
-    let Held::Bytes(others) = back else {
-        return PendingCount::Refused(2);
-    };
-    PendingCount::Now {
+    limits.ask_lent(bytes.len(), lens.len())?;
+    let first = entries_held(lens, 0, frozen, limits.bytes).ok_or(Refusal::State)?;
+    let others = entries_held(lens, frozen, n, limits.bytes - first).ok_or(Refusal::State)?;
+    Ok(PendingCount {
         frozen: Count {
             entries: frozen,
             bytes: first,
@@ -41,7 +33,7 @@ pub fn count_pending(
             entries: n,
             bytes: first + others,
         },
-    }
+    })
 }
 
 // The new entries to the places behind those that are held. Asks nothing: what is not there or does not fit is cut.
@@ -56,10 +48,10 @@ pub fn append_entries(
     ensures bytes_after { bytes.new ≡ clipped bytes.old held.bytes (take new.bytes bodies.now) }
     ensures lens_after { lens.new ≡ clipped lens.old held.entries (take new.entries sizes.now) }
 {
-    let size = lesser(new.bytes as usize, bodies.len());
-    let count = lesser(new.entries as usize, sizes.len());
-    write_bytes(&bodies[0..size], bytes, held.bytes as usize);
-    write_lengths(&sizes[0..count], lens, held.entries as usize);
+    let size = (new.bytes as usize).min(bodies.len());
+    let count = (new.entries as usize).min(sizes.len());
+    write(&bodies[0..size], bytes, held.bytes as usize);
+    write(&sizes[0..count], lens, held.entries as usize);
 }
 
 // The first k of the new entries come behind the n pending ones.
@@ -71,30 +63,21 @@ pub fn append(
     bodies: &[u8],
     sizes: &[u16],
     k: u64,
-) -> Counted
+) -> Result<Count, Refusal>
     ensures value { result ≡ append_answer limits (memory bytes.old lens.old n) (memory bodies.now sizes.now k) }
     ensures bytes_after { bytes.new ≡ (append_lent limits (memory bytes.old lens.old n) (memory bodies.now sizes.now k)).bytes }
     ensures lens_after { lens.new ≡ (append_lent limits (memory bytes.old lens.old n) (memory bodies.now sizes.now k)).lens }
 {
-    let p = count_pending(limits, bytes, lens, n, 0);
-    let PendingCount::Now { frozen, all } = p else {
-        let q = p.refusal();
-        return Counted::Refused(q);
-    };
-    let g = count_given(bodies, sizes, k);
-    let Counted::Now(new) = g else {
-        return g;
-    };
+    let pending = count_pending(limits, bytes, lens, n, 0)?;
+    let all = pending.all;
+    let new = count_given(bodies, sizes, k)?;
     let after = Count {
         entries: all.entries + new.entries,
         bytes: all.bytes + new.bytes,
     };
-    let q = limits.ask_room(after);
-    if q != 0 {
-        return Counted::Refused(q);
-    }
+    limits.ask_room(after)?;
     append_entries(bytes, lens, all, bodies, sizes, new);
-    Counted::Now(after)
+    Ok(after)
 }
 
 // The first entries leave, and the others move to the front over exactly their new places. Asks nothing: what is not there is not moved.
@@ -102,29 +85,33 @@ pub fn move_front(bytes: &mut [u8], lens: &mut [u16], gone: Count, rest: Count)
     ensures bytes_after { bytes.new ≡ splice bytes.old 0 (take rest.bytes (drop gone.bytes bytes.old)) }
     ensures lens_after { lens.new ≡ splice lens.old 0 (take rest.entries (drop gone.entries lens.old)) }
 {
-    move_bytes(bytes, gone.bytes as usize, rest.bytes as usize);
-    move_lengths(lens, gone.entries as usize, rest.entries as usize);
+    runs::move_front(bytes, gone.bytes as usize, rest.bytes as usize);
+    runs::move_front(lens, gone.entries as usize, rest.entries as usize);
 }
 
 // The first k of the n pending entries leave.
-pub fn take_front(limits: Limits, bytes: &mut [u8], lens: &mut [u16], n: u64, k: u64) -> Counted
+pub fn take_front(
+    limits: Limits,
+    bytes: &mut [u8],
+    lens: &mut [u16],
+    n: u64,
+    k: u64,
+) -> Result<Count, Refusal>
     ensures value { result ≡ take_front_answer limits (memory bytes.old lens.old n) k }
     ensures bytes_after { bytes.new ≡ (take_front_lent limits (memory bytes.old lens.old n) k).bytes }
     ensures lens_after { lens.new ≡ (take_front_lent limits (memory bytes.old lens.old n) k).lens }
 {
-    let first = lesser(k as usize, n as usize) as u64;
-    let p = count_pending(limits, bytes, lens, n, first);
-    let PendingCount::Now { frozen, all } = p else {
-        let q = p.refusal();
-        return Counted::Refused(q);
-    };
+    let first = (k as usize).min(n as usize) as u64;
+    let pending = count_pending(limits, bytes, lens, n, first)?;
     if n < k {
-        return Counted::Refused(4);
+        return Err(Refusal::Argument);
     }
+    let gone = pending.frozen;
+    let all = pending.all;
     let rest = Count {
-        entries: all.entries - frozen.entries,
-        bytes: all.bytes - frozen.bytes,
+        entries: all.entries - gone.entries,
+        bytes: all.bytes - gone.bytes,
     };
-    move_front(bytes, lens, frozen, rest);
-    Counted::Now(rest)
+    move_front(bytes, lens, gone, rest);
+    Ok(rest)
 }

@@ -1,4 +1,5 @@
 // The range format (document 01, "Range"), for the crates that read and write it: its numbers here, its definitions and laws in specs/.
+//   Count       a number of entries and of their bytes
 //   blocks_of   the fewest blocks that hold the range of so many entries with so many bytes
 #![tactic(auto)]
 
@@ -17,3 +18,10 @@ pub const HEAD_SIZE: usize = 4;
 pub const MOST_ENTRIES: usize = 1024;
 
 pub const MOST_ENTRY_LENGTH: u16 = 255;
+
+// A number of entries and of their bytes.
+#[derive(Clone, Copy)]
+pub struct Count {
+    pub entries: u64,
+    pub bytes: u64,
+}

@@ -1,18 +1,15 @@
 -- One entry of a range: what is asked of its index, and where its body lies. Assumes nothing.
 use Rattle.std.specs.Prelude.{ℕ, ◌+◌, ◌*◌, ◌-◌, ◌≤◌, ◌<◌, ◌≡◌, take, drop, ltb}
-use Rattle.std.proofs.Math.Bool.{true, false}
 use Rattle.std.proofs.Math.Path.{sym, ap}
 use Rattle.std.proofs.Common.{◌∙◌}
 use mathlib.Core.List.{List, []}
 use native.Mathlib.Omega.{arith}
 use Rattle.std.proofs.Math.ListN.{length, get_or}
-use borrow.Author.Tests.{lt-ltb, le-ltb, ltb-true}
-use Rattle.laws.specs.Choice.{ask, and_then, unless, and_then_left, and_then_right, and_then_first, and_then_both, ask_yes, ask_holds, ask_fails, not_so, unless_done}
+use borrow.Author.Tests.{ltb-true}
+use Rattle.laws.specs.Choice.{ask, and_then, unless, and_then_left, and_then_right, ask_yes, unless_done}
 use Rattle.laws.specs.Fold.{sum, sum_split}
 use Rattle.range.specs.Form.{most_entry_length, length_width, head_size, entry_count, lengths_at, entries, parses}
 use Rattle.range.specs.Shape.{Shape, shape_facts, length_entries_at, lengths_at_one_take, lengths_at_one_at, entry_part, entry_in}
-use Rattle.reader.specs.declared.answer.Counted.TheVariants as count
-use Rattle.reader.specs.Answer.{counted, counted_entries, counted_refused}
 
 -- questions 7 and 4 of an entry
 unfoldable pub ask_entry : List ℕ → ℕ → ℕ
@@ -22,31 +19,7 @@ ask_entry xs i = and_then (ask 7 (parses xs)) (ask 4 (ltb i (length (entries xs)
 unfoldable pub body_start : ℕ → List ℕ → ℕ → ℕ
 body_start w xs i = head_size + entry_count xs * w + sum (take i (lengths_at w xs))
 
--- the ways out of the questions, from the count that was answered
 module _ (xs : List ℕ) (i : ℕ) where
-  pub entry_none : (n : ℕ) → count.Refused n ≡ counted (ask 7 (parses xs)) (length (entries xs)) → 7 ≡ ask_entry xs i
-  unfolding ask_entry
-  entry_none n h =
-      let f = counted_refused (ask 7 (parses xs)) n (length (entries xs)) h in
-      let p : parses xs ≡ false = not_so (parses xs) (λ p. f.1 (ask_holds 7 (parses xs) p)) in
-      sym (and_then_first (ask 7 (parses xs)) (ask 4 (ltb i (length (entries xs)))) f.1 ∙ ask_fails 7 (parses xs) p)
-
-  module _ (n : ℕ) (h : count.Entries n ≡ counted (ask 7 (parses xs)) (length (entries xs))) where
-    pub entry_past : n ≤ i → 4 ≡ ask_entry xs i
-    unfolding ask_entry and_then ask
-    entry_past k =
-        let f = counted_entries (ask 7 (parses xs)) n (length (entries xs)) h in
-        let p : parses xs ≡ true = ask_yes 7 (parses xs) (omega arith) f.0 in
-        let l : length (entries xs) ≤ i = omega (arith, f.1) in
-        simp (p, le-ltb i (length (entries xs)) l)
-
-    pub entry_there : i < n → 0 ≡ ask_entry xs i
-    unfolding ask_entry
-    entry_there k =
-        let f = counted_entries (ask 7 (parses xs)) n (length (entries xs)) h in
-        let l : i < length (entries xs) = omega (arith, f.1) in
-        sym (and_then_both (ask 7 (parses xs)) (ask 4 (ltb i (length (entries xs)))) f.0 (ask_holds 4 (ltb i (length (entries xs))) (lt-ltb i (length (entries xs)) l)))
-
   -- both questions were answered yes
   module _ (e : ask_entry xs i ≡ 0) where
     pub entry_shape : Shape length_width most_entry_length xs

@@ -1,5 +1,7 @@
 -- The range in front of some bytes: it is as long as it says. What stands there, the ways out of a reader that asks one clause after
 -- another, and what a range that ends with the bytes tells of them. Assumes nothing.
+use Rattle.std.specs.Prelude.{None, Some, Ok, Err}
+use Rattle.std.specs.declared.option.Option as code
 use Rattle.std.specs.Prelude.{ℕ, ◌+◌, ◌*◌, ◌-◌, ◌≤◌, ◌<◌, Bool, false, cond, ◌≡◌, refl, drop}
 use Rattle.std.proofs.Math.Bool.{true}
 use Rattle.std.proofs.Math.Path.{sym, ap}
@@ -17,9 +19,7 @@ use Rattle.range.specs.Shape.{Shape, shape_of, shape_facts, shape_yes, length_en
 use Rattle.range.specs.Round.{lengths_entries_at}
 use Rattle.range.specs.Walk.{block_count_take, entry_count_take, lengths_at_take}
 use Rattle.reader.specs.declared.answer.Contents.{Contents}
-use Rattle.reader.specs.declared.answer.Front.{Front}
-use Rattle.reader.specs.declared.answer.Front.TheVariants as front
-use Rattle.reader.specs.declared.answer.Scanned.TheVariants as scan
+use Rattle.refusal.specs.declared.Refusal.TheVariants as no
 use Rattle.reader.specs.Answer.{scanned}
 use Rattle.reader.specs.Range.{contents_of, counts_ok, said, Said, Small, counts_yes, counts_facts, lengths_part, contents_small, contents_said, contents_whole}
 
@@ -35,8 +35,8 @@ abbrev pub InFront : List ℕ → Type 0
 InFront xs = parses (front_range xs) ≡ true
 
 -- the answer: what it says of itself
-unfoldable pub front_of : List ℕ → Front
-front_of xs = cond (parses (front_range xs)) (front.Range (said xs)) front.Nothing
+unfoldable pub front_of : List ℕ → code.Option Contents
+front_of xs = cond (parses (front_range xs)) (Some (said xs)) None
 
 -- what stands in front, in a reader's numbers
 pub record Fronted (xs : List ℕ) (size e t : ℕ) : Type 0 where
@@ -121,16 +121,16 @@ module _ (xs : List ℕ) (c : Contents) (hc : c ≡ contents_of xs) where
   pub front_small : Bytes xs → Small c
   front_small b = rw hc (contents_small xs b)
 
-  front_no : (InFront xs → ⊥) → front.Nothing ≡ front_of xs
+  front_no : (InFront xs → ⊥) → None ≡ front_of xs
   unfolding front_of
   front_no h = simp (not_so (parses (front_range xs)) h)
 
   -- it passes the end
-  pub front_past : length xs < c.blocks * block_size → front.Nothing ≡ front_of xs
+  pub front_past : length xs < c.blocks * block_size → None ≡ front_of xs
   front_past h = front_no (λ p. let f = fronted xs p c hc in omega arith)
 
   -- its counts are none of a range
-  pub front_counts : counts_ok c ≡ false → front.Nothing ≡ front_of xs
+  pub front_counts : counts_ok c ≡ false → None ≡ front_of xs
   front_counts h =
       front_no
       (λ p.
@@ -175,7 +175,7 @@ module _ (xs : List ℕ) (c : Contents) (hc : c ≡ contents_of xs) where
           let w = front_counted in
           hq ∙ ap (every (ok_length most_entry_length)) (lengths_part xs c.entries w.count w.within ∙ sym lengths_same)
 
-      pub front_bad_length : q ≡ false → front.Nothing ≡ front_of xs
+      pub front_bad_length : q ≡ false → None ≡ front_of xs
       front_bad_length h = front_no (λ p. false_true (sym (sym each ∙ h) ∙ (shape xs p).each))
 
       module _ (z : Bool)
@@ -188,10 +188,10 @@ module _ (xs : List ℕ) (c : Contents) (hc : c ≡ contents_of xs) where
             ∙ ap (every is_zero) (sym (drop_take u (c.blocks * block_size - u) xs))
             ∙ (λ i. every is_zero (drop (sym used_same i) (take (e i) xs)))
 
-        pub front_nonzero : z ≡ false → front.Nothing ≡ front_of xs
+        pub front_nonzero : z ≡ false → None ≡ front_of xs
         front_nonzero h = front_no (λ p. false_true (sym (sym zeros ∙ h) ∙ (shape xs p).zeros))
 
-        pub front_yes : q ≡ true → z ≡ true → front.Range c ≡ front_of xs
+        pub front_yes : q ≡ true → z ≡ true → Some c ≡ front_of xs
         unfolding front_of
         front_yes hl ho =
             let w = front_counted in
@@ -208,26 +208,26 @@ module _ (xs : List ℕ) (c : Contents) (hc : c ≡ contents_of xs) where
             (blocks-same ∙ sym w.blocks ∙ f.fewest ∙ ap blocks_for u)
             (sym zeros ∙ ho) in
             simp (shape_yes length_width most_entry_length (front_range xs) s)
-            (λ i. front.Range (record { blocks = w.blocks i; entries = w.count i; bytes = w.bytes i }))
+            (λ i. Some (record { blocks = w.blocks i; entries = w.count i; bytes = w.bytes i }))
 
 -- from the case of the answer
-pub front_none : (xs : List ℕ) → front.Nothing ≡ front_of xs → parses (front_range xs) ≡ false
+pub front_none : (xs : List ℕ) → None ≡ front_of xs → parses (front_range xs) ≡ false
 unfolding front_of
 front_none xs = go (parses (front_range xs))
   where
-    go : (b : Bool) → front.Nothing ≡ cond b (front.Range (said xs)) front.Nothing → b ≡ false
+    go : (b : Bool) → None ≡ cond b (Some (said xs)) None → b ≡ false
     go true h = ruin (cc)
     go false h = refl
 
-front_case : (xs : List ℕ) (c : Contents) → front.Range c ≡ front_of xs → InFront xs × (c ≡ said xs)
+front_case : (xs : List ℕ) (c : Contents) → Some c ≡ front_of xs → InFront xs × (c ≡ said xs)
 unfolding front_of
 front_case xs c = go (parses (front_range xs))
   where
-    go : (b : Bool) → front.Range c ≡ cond b (front.Range (said xs)) front.Nothing → (b ≡ true) × (c ≡ said xs)
+    go : (b : Bool) → Some c ≡ cond b (Some (said xs)) None → (b ≡ true) × (c ≡ said xs)
     go true h = (refl, cc)
     go false h = ruin (cc)
 
-module _ (xs : List ℕ) (c : Contents) (h : front.Range c ≡ front_of xs) where
+module _ (xs : List ℕ) (c : Contents) (h : Some c ≡ front_of xs) where
   pub front_there : InFront xs
   front_there = (front_case xs c h).0
 
@@ -246,24 +246,24 @@ whole_front xs s = take_all (range_size xs) xs (omega arith)
 
 -- the ways out of a reader of one range: none stands in front, it ends before the bytes do, or with them
 module _ (xs : List ℕ) where
-  scan_not : (Shape length_width most_entry_length xs → ⊥) → scan.Refused 7 ≡ scanned (ask 7 (parses xs)) (entries xs)
+  scan_not : (Shape length_width most_entry_length xs → ⊥) → Err no.Parse ≡ scanned (ask 7 (parses xs)) (entries xs)
   unfolding ask
   scan_not h = ap (λ (p : Bool). scanned (ask 7 p) (entries xs)) (sym (not_so (parses xs) (λ p. h (shape_facts length_width most_entry_length xs p))))
 
-  pub scan_none : front.Nothing ≡ front_of xs → scan.Refused 7 ≡ scanned (ask 7 (parses xs)) (entries xs)
+  pub scan_none : None ≡ front_of xs → Err no.Parse ≡ scanned (ask 7 (parses xs)) (entries xs)
   scan_none h =
       scan_not
       (λ s. false_true (sym (front_none xs h) ∙ ap parses (whole_front xs s) ∙ shape_yes length_width most_entry_length xs s))
 
-  module _ (c : Contents) (h : front.Range c ≡ front_of xs) where
-    pub scan_short : (length xs ≡ c.blocks * block_size → ⊥) → scan.Refused 7 ≡ scanned (ask 7 (parses xs)) (entries xs)
+  module _ (c : Contents) (h : Some c ≡ front_of xs) where
+    pub scan_short : (length xs ≡ c.blocks * block_size → ⊥) → Err no.Parse ≡ scanned (ask 7 (parses xs)) (entries xs)
     scan_short k = scan_not (λ s. let f = front_facts xs c h in k (omega arith))
 
-    pub scan_whole : length xs ≡ c.blocks * block_size → scan.Total c.entries c.bytes ≡ scanned (ask 7 (parses xs)) (entries xs)
+    pub scan_whole : length xs ≡ c.blocks * block_size → Ok (record { entries = c.entries; bytes = c.bytes }) ≡ scanned (ask 7 (parses xs)) (entries xs)
     unfolding ask
     scan_whole k =
         let f = front_facts xs c h in
         let all : front_range xs ≡ xs = take_all (range_size xs) xs (omega arith) in
         let p : parses xs ≡ true = sym (ap parses all) ∙ front_there xs c h in
         simp p
-        (λ i. scan.Total ((f.count ∙ ap (λ (l : List ℕ). length (entries l)) all) i) ((f.bytes ∙ ap (λ (l : List ℕ). sum (lengths (entries l))) all) i))
+        (λ i. Ok (record { entries = (f.count ∙ ap (λ (l : List ℕ). length (entries l)) all) i; bytes = (f.bytes ∙ ap (λ (l : List ℕ). sum (lengths (entries l))) all) i }))

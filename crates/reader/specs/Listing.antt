@@ -2,15 +2,12 @@
 -- of a length. Assumes nothing.
 use Rattle.std.specs.Prelude.{ℕ, zero, suc, ◌+◌, ◌*◌, ◌≤◌, ◌<◌, ◌≡◌, List, [], ◌∷◌, length, take, drop, get_or, set, eqb}
 use Rattle.std.proofs.Math.Path.{refl}
-use Rattle.std.proofs.Common.{sym, ◌∙◌, ap, zero-add, add-zero, add_assoc, arith, take_all, eq-eqb, ne_eqb}
-use Rattle.laws.specs.Choice.{ask, and_then, unless, unless_kept, unless_done}
+use Rattle.std.proofs.Common.{sym, ◌∙◌, ap, zero-add, add-zero, add_assoc, arith, take_all}
+use Rattle.laws.specs.Choice.{ask, and_then}
 use Rattle.laws.specs.Splice.{splice, copy_turn}
 use Rattle.laws.specs.Fold.{sum, sum_take_step}
-use Rattle.range.specs.Form.{most_entries, most_entry_length, length_width, head_size, entry_count, lengths_at, entries_at, entries, parses}
+use Rattle.range.specs.Form.{most_entries, most_entry_length, length_width, head_size, entry_count, lengths_at, entries_at, parses}
 use Rattle.range.specs.Shape.{Shape, length_lengths_at, lengths_at_one_at, entry_part}
-use Rattle.reader.specs.declared.answer.Counted.{Counted}
-use Rattle.reader.specs.declared.answer.Counted.TheVariants as count
-use Rattle.reader.specs.Answer.{counted, counted_entries, counted_refused}
 use Rattle.reader.specs.Entry.{body_start}
 
 -- the starts of bodies of the given lengths, the first at a
@@ -71,32 +68,3 @@ module _ (xs : List ℕ) where
   unfolding body_start
   next_start i a b s h p q =
       omega (arith, p, q, sum_take_step (lengths_at length_width xs) i (omega (arith, h, length_lengths_at length_width xs)), lengths_at_one_at xs i (omega arith) h)
-
--- the ways out: the lent places, the range, the listing
-module _ (xs starts : List ℕ) where
-  module _ (h : length starts ≡ most_entries → ⊥) where
-    pub list_unlent : count.Refused 1 ≡ counted (ask_list xs starts) (length (entries xs))
-    unfolding ask_list and_then ask
-    list_unlent = simp (ne_eqb (length starts) most_entries h)
-
-    pub list_unlent_kept : (new : List ℕ) → starts ≡ unless (ask_list xs starts) starts new
-    unfolding ask_list and_then ask unless
-    list_unlent_kept new = simp (ne_eqb (length starts) most_entries h)
-
-  module _ (h : length starts ≡ most_entries) (r : Counted) (hr : r ≡ counted (ask 7 (parses xs)) (length (entries xs))) where
-    asked : ask_list xs starts ≡ ask 7 (parses xs)
-    unfolding ask_list and_then ask
-    asked = simp (eq-eqb (length starts) most_entries h)
-
-    pub list_answer : r ≡ counted (ask_list xs starts) (length (entries xs))
-    list_answer = hr ∙ ap (λ (q : ℕ). counted q (length (entries xs))) (sym asked)
-
-    pub list_kept : (n : ℕ) (new : List ℕ) → r ≡ count.Refused n → starts ≡ unless (ask_list xs starts) starts new
-    list_kept n new e =
-        let f = counted_refused (ask 7 (parses xs)) n (length (entries xs)) (sym e ∙ hr) in
-        sym (ap (λ (q : ℕ). unless q starts new) asked ∙ unless_kept (ask 7 (parses xs)) starts new f.1)
-
-    pub list_done : (n : ℕ) (x new : List ℕ) → r ≡ count.Entries n → x ≡ new → x ≡ unless (ask_list xs starts) starts new
-    list_done n x new e k =
-        let f = counted_entries (ask 7 (parses xs)) n (length (entries xs)) (sym e ∙ hr) in
-        k ∙ sym (ap (λ (q : ℕ). unless q starts new) asked ∙ unless_done (ask 7 (parses xs)) starts new f.0)

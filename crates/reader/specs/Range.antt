@@ -1,6 +1,5 @@
--- What bytes say of themselves, taken as a range, in a reader's own numbers; and the question and the count alone, from what was scanned.
--- Assumes nothing.
-use Rattle.std.specs.Prelude.{ℕ, ◌+◌, ◌*◌, ◌-◌, ◌≤◌, ◌<◌, Bool, true, cond, ◌≡◌, refl, List, take, drop, get_or, leb, eqb}
+-- What bytes say of themselves, taken as a range, in a reader's own numbers. Assumes nothing.
+use Rattle.std.specs.Prelude.{ℕ, ◌+◌, ◌*◌, ◌-◌, ◌≤◌, ◌<◌, Bool, true, cond, ◌≡◌, refl, List, take, drop, leb, eqb, Ok}
 use Rattle.std.proofs.Common.{sym, ◌∙◌, ap, le-leb, eq-eqb, leb-true, eqb-true}
 use native.Mathlib.Omega.{arith}
 use Rattle.std.proofs.Math.ListN.{length}
@@ -12,9 +11,7 @@ use Rattle.laws.specs.Bytes.{Bytes, bytes_at}
 use Rattle.range.specs.Lengths.{block_count_small, entry_count_small}
 use Rattle.range.specs.Shape.{Shape, shape_facts, lengths_at_one, lengths_at_one_at, length_lengths_at, length_entries_at}
 use Rattle.reader.specs.declared.answer.Contents.{Contents}
-use Rattle.reader.specs.declared.answer.Scanned.TheVariants as scan
-use Rattle.reader.specs.declared.answer.Counted.TheVariants as count
-use Rattle.reader.specs.Answer.{scanned, counted, scanned_total, scanned_refused, counted_entries, counted_yes, counted_no}
+use Rattle.refusal.specs.Refusal.{ok_unless, yes, yes_value}
 
 -- no blocks, no entries, no bytes
 abbrev pub nothing : Contents
@@ -118,28 +115,10 @@ counts_facts c h =
       fewest = eqb-true c.blocks (blocks_for (used length_width c.entries c.bytes)) (also_right _ _ k);
     }
 
--- the question alone, and the count alone, from what was scanned
-module _ (xs : List ℕ) where
-  module _ (e t : ℕ) (h : scan.Total e t ≡ scanned (ask 7 (parses xs)) (entries xs)) where
-    pub asked_yes : 0 ≡ ask 7 (parses xs)
-    asked_yes = sym (scanned_total (ask 7 (parses xs)) e t (entries xs) h).0
-
-    pub count_yes : count.Entries e ≡ counted (ask 7 (parses xs)) (length (entries xs))
-    count_yes = let f = scanned_total (ask 7 (parses xs)) e t (entries xs) h in counted_yes (ask 7 (parses xs)) e (length (entries xs)) f.0 f.1
-
-  module _ (n : ℕ) (h : scan.Refused n ≡ scanned (ask 7 (parses xs)) (entries xs)) where
-    pub asked_no : n ≡ ask 7 (parses xs)
-    asked_no = (scanned_refused (ask 7 (parses xs)) n (entries xs) h).0
-
-    pub count_no : count.Refused n ≡ counted (ask 7 (parses xs)) (length (entries xs))
-    count_no = let f = scanned_refused (ask 7 (parses xs)) n (entries xs) h in counted_no (ask 7 (parses xs)) n (length (entries xs)) f.1 f.0
-
 -- what a count tells of the bytes
-module _ (xs : List ℕ) (n : ℕ) (h : count.Entries n ≡ counted (ask 7 (parses xs)) (length (entries xs))) where
+module _ (xs : List ℕ) (n : ℕ) (h : Ok n ≡ ok_unless (ask 7 (parses xs)) (length (entries xs))) where
   pub counted_shape : Shape length_width most_entry_length xs
-  counted_shape =
-      shape_facts length_width most_entry_length xs
-      (ask_yes 7 (parses xs) (omega arith) (counted_entries (ask 7 (parses xs)) n (length (entries xs)) h).0)
+  counted_shape = shape_facts length_width most_entry_length xs (ask_yes 7 (parses xs) (omega arith) (yes (ask 7 (parses xs)) n (length (entries xs)) h))
 
   pub counted_is : n ≡ entry_count xs
-  counted_is = (counted_entries (ask 7 (parses xs)) n (length (entries xs)) h).1 ∙ length_entries_at length_width xs
+  counted_is = yes_value (ask 7 (parses xs)) n (length (entries xs)) h ∙ length_entries_at length_width xs

@@ -1,15 +1,16 @@
 // One entry of a range: its body is a part of the lent bytes.
 ghost use Rattle.std.specs.Prelude.{◌≡◌, [], ◌+◌, ◌≤◌, ◌<◌, length, get_or};
+ghost use Rattle.refusal.specs.Refusal.{asked};
 ghost use Rattle.laws.specs.Choice.{unless};
 ghost use Rattle.range.specs.Form.{length_width, most_entry_length, entry_count, entries};
 ghost use Rattle.range.specs.Shape.{Shape};
 ghost use Rattle.reader.specs.Entry.{ask_entry, body_start};
 
-use super::answer::Counted;
 use super::head::entry_count;
 use super::parse::count;
 use super::walk::total;
 use range::HEAD_SIZE;
+use refusal::Refusal;
 
 // Where body i of a range begins: behind the lengths and the bodies before it.
 fn body_start(s: &[u8], i: usize) -> usize
@@ -22,41 +23,30 @@ fn body_start(s: &[u8], i: usize) -> usize
     HEAD_SIZE + entries + before
 }
 
-// A byte as a size.
-fn wide(x: u8) -> usize
-    ensures { (result ≡ x) × (result < 256) }
-{
-    x as usize
-}
-
 // Where a body of the given length ends: a place of a slice has 63 bits.
 pub(crate) fn body_end(start: usize, length: u8) -> usize
     requires { start < 9223372036854775808 }
     ensures { result ≡ start + length }
 {
-    start + wide(length)
+    start + usize::from(length)
 }
 
 // Questions 7 and 4: do the bytes parse, and has the range an entry i?
-pub fn entry_refusal(s: &[u8], i: u64) -> u8
-    ensures { result ≡ ask_entry s.now i }
+pub fn entry_refusal(s: &[u8], i: u64) -> Result<(), Refusal>
+    ensures { result ≡ asked (ask_entry s.now i) }
 {
-    let c = count(s);
-    let Counted::Entries(n) = c else {
-        return 7;
-    };
+    let n = count(s)?;
     if i < n {
-        return 0;
+        return Ok(());
     }
-    4
+    Err(Refusal::Argument)
 }
 
 // The body of entry i, empty where it is refused.
 pub fn entry(s: &[u8], i: u64) -> &[u8]
     ensures { result.now ≡ unless (ask_entry s.now i) [] (get_or (entries s.now) i []) }
 {
-    let q = entry_refusal(s, i);
-    if q != 0 {
+    if entry_refusal(s, i).is_err() {
         return &s[0..0];
     }
     let k = i as usize;

@@ -4,11 +4,11 @@
 //   ask_range      question 7: do the bytes parse as a range?
 //   scan_range     how many entries the range has, and how many bytes these have together
 //   count          how many entries
-//   entry          the body of an entry, as a part of the bytes; empty where entry_refusal has a number
+//   entry          the body of an entry, as a part of the bytes; empty where entry_refusal answers a no
 //   entry_refusal  questions 7 and 4 of an entry
 //   list           where each body begins
-// Every function is total: bytes that are no range are a 7.
-#![tactic(auto)]
+// Every function is total: bytes that are no range are a `Refusal::Parse`.
+#![tactic(auto, using(refusal::specs::Refusal::questions, laws::specs::Choice::tests), unfolding(laws::specs::Choice::and_then, laws::specs::Choice::ask, laws::specs::Choice::unless, crate::specs::Entry::ask_entry, crate::specs::Listing::ask_list))]
 
 mod answer;
 mod body;
@@ -17,7 +17,7 @@ mod listing;
 mod parse;
 mod walk;
 
-pub use answer::{Contents, Counted, Front, Scanned};
+pub use answer::Contents;
 pub use body::{entry, entry_refusal};
 pub use listing::list;
 pub use parse::{ask_range, contents, count, range_in_front, scan_range};

@@ -1,4 +1,6 @@
 -- Commits: the questions and the effect of both requests and of the answer.
+use Rattle.std.specs.Prelude.{None, Some, Err, Result}
+use Rattle.std.specs.declared.option.Option as code
 use Rattle.std.specs.Prelude.{ℕ, ◌-◌, Bool, cond, leb, ltb, eqb}
 use Rattle.laws.specs.Choice.{also, ask}
 use Rattle.layout.specs.declared.Geometry.{Geometry}
@@ -7,13 +9,12 @@ use Rattle.layout.specs.Geometry.{num_journal_blocks}
 use Rattle.layout.specs.Journal.{journal_pos_add}
 use Rattle.superblock.specs.declared.Superblock.{Superblock}
 use Rattle.superblock.specs.Superblock.{increment_superblock_counter}
-use Rattle.ready.specs.declared.MaybeLocation.{MaybeLocation}
-use Rattle.ready.specs.declared.MaybeLocation.TheVariants.{NoLocation, Received}
 use Rattle.ready.specs.declared.Commit.{Commit}
 use Rattle.ready.specs.declared.Commit.TheVariants.{CommitNone, CommitAdvanceLog, CommitAdvanceLocation}
 use Rattle.ready.specs.declared.Ready.{Ready}
-use Rattle.ready.specs.declared.NewSuperblock.{NewSuperblock}
-use Rattle.ready.specs.declared.NewSuperblock.TheVariants as new
+use Rattle.refusal.specs.declared.Refusal.{Refusal}
+use Rattle.refusal.specs.declared.Refusal.TheVariants as no
+use Rattle.refusal.specs.Refusal.{ok_unless}
 use Rattle.ready.specs.State.{is_received, no_commit, none_frozen, none_outstanding, commit_slot, with_commit, not_frozen}
 
 -- the clauses that both requests have
@@ -23,11 +24,7 @@ may_commit r =
     (none_outstanding r))
     (none_frozen r.entries)
 
--- the answer: the superblock that is sent, or a no
-abbrev pub new_superblock : ℕ → Superblock → NewSuperblock
-new_superblock q superblock = cond (eqb q 0) (new.Is superblock) (new.Refused q)
-
--- WriteBackSuperblockReq_AdvanceLog: question 6, and `new_superblock`
+-- WriteBackSuperblockReq_AdvanceLog: question 6, and `new_superblock`, the superblock that is sent
 unfoldable pub ask_advance_log : Geometry → Ready → ℕ
 ask_advance_log g r =
     ask 6
@@ -43,8 +40,8 @@ advanced_log r =
       indirectionTableLoc = r.superblock.indirectionTableLoc;
     }
 
-unfoldable pub advance_log : Geometry → Ready → NewSuperblock
-advance_log g r = new_superblock (ask_advance_log g r) (advanced_log r)
+unfoldable pub advance_log : Geometry → Ready → Result Superblock Refusal
+advance_log g r = ok_unless (ask_advance_log g r) (advanced_log r)
 
 abbrev pub advance_log_next : Ready → ℕ → Superblock → Ready
 advance_log_next r id new = with_commit r (CommitAdvanceLog id new)
@@ -68,11 +65,11 @@ advanced_location g r loc =
       indirectionTableLoc = loc;
     }
 
-abbrev pub to_location : Geometry → Ready → MaybeLocation → NewSuperblock
-to_location g r NoLocation = new.Refused 6
-to_location g r (Received loc) = new_superblock (ask_advance_location g r) (advanced_location g r loc)
+abbrev pub to_location : Geometry → Ready → code.Option Location → Result Superblock Refusal
+to_location g r None = Err no.Condition
+to_location g r (Some loc) = ok_unless (ask_advance_location g r) (advanced_location g r loc)
 
-unfoldable pub advance_location : Geometry → Ready → NewSuperblock
+unfoldable pub advance_location : Geometry → Ready → Result Superblock Refusal
 advance_location g r = to_location g r r.frozen.frozenLoc
 
 abbrev pub advance_location_next : Ready → ℕ → Superblock → Ready

@@ -1,11 +1,11 @@
 -- The questions and the effect of Advance and of Replay on the record. Entries lie in lent memory: question 4 of those that a step brings,
 -- and question 6 of a replay, that they are the next ones, are asked there.
-use Rattle.std.specs.Prelude.{ℕ, ◌+◌, leb}
+use Rattle.std.specs.Prelude.{ℕ, ◌+◌, Result, leb}
 use Rattle.laws.specs.Choice.{also, and_then, ask}
-use Rattle.memory.specs.declared.Count.{Count}
-use Rattle.memory.specs.declared.Counted.{Counted}
+use Rattle.range.specs.declared.Count.{Count}
 use Rattle.memory.specs.declared.Limits.{Limits}
-use Rattle.memory.specs.Answer.{counted}
+use Rattle.refusal.specs.declared.Refusal.{Refusal}
+use Rattle.refusal.specs.Refusal.{ok_unless}
 use Rattle.ready.specs.declared.Ready.{Ready}
 use Rattle.ready.specs.State.{replayed, count, counts, with_entries}
 
@@ -21,8 +21,8 @@ ask_advance limits r held new =
     (also (leb (advanced r held new).entries limits.entries)
     (leb (advanced r held new).bytes limits.bytes)))
 
-unfoldable pub advance : Limits → Ready → ℕ → Count → Counted
-advance limits r held new = counted (ask_advance limits r held new) (advanced r held new)
+unfoldable pub advance : Limits → Ready → ℕ → Count → Result Count Refusal
+advance limits r held new = ok_unless (ask_advance limits r held new) (advanced r held new)
 
 unfoldable pub advance_next : Ready → ℕ → Ready
 advance_next r pending = with_entries r (counts pending r.entries.frozen r.entries.replay r.entries.taken)

@@ -1,10 +1,10 @@
 -- The questions and the effect of Freeze and of ReceiveFrozenLoc.
+use Rattle.std.specs.Prelude.{None, Some}
 use Rattle.std.specs.Prelude.{ℕ, true, not}
 use Rattle.laws.specs.Choice.{also, and_then, ask}
 use Rattle.layout.specs.declared.Geometry.{Geometry}
 use Rattle.layout.specs.declared.Location.{Location}
 use Rattle.layout.specs.Location.{valid_indirection_table_location}
-use Rattle.ready.specs.declared.MaybeLocation.TheVariants.{NoLocation, Received}
 use Rattle.ready.specs.declared.Ready.{Ready}
 use Rattle.ready.specs.State.{is_received, is_location, no_commit, replayed, frozen_at, counts, with_frozen, with_entries}
 
@@ -20,7 +20,7 @@ ask_freeze r =
 unfoldable pub freeze_next : Ready → Ready
 freeze_next r =
     with_frozen (with_entries r (counts r.entries.pending r.entries.pending r.entries.replay r.entries.taken))
-    (frozen_at true r.writtenJournalLen NoLocation)
+    (frozen_at true r.writtenJournalLen None)
 
 -- ReceiveFrozenLoc: questions 4 and 6
 unfoldable pub ask_receive_frozen_loc : Geometry → Ready → Location → ℕ
@@ -31,4 +31,4 @@ ask_receive_frozen_loc g r loc =
     (not (is_received r.frozen.frozenLoc))))
 
 unfoldable pub receive_frozen_loc_next : Ready → Location → Ready
-receive_frozen_loc_next r loc = with_frozen r (frozen_at r.frozen.isFrozen r.frozen.frozenJournalPosition (Received loc))
+receive_frozen_loc_next r loc = with_frozen r (frozen_at r.frozen.isFrozen r.frozen.frozenJournalPosition (Some loc))

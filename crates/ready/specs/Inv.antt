@@ -1,6 +1,9 @@
 -- Question 2's test of the record: 000's InvReady, a clause a line and in its order; then what the record adds. Met by the type of `commit`:
 -- superblock_write.Some? <==> new_superblock.Some?, superblock_write.None? <==> commit_status.CommitNone?, and that a commit has its new
 -- superblock and one of the two kinds.
+use Rattle.layout.specs.declared.Location.{Location}
+use Rattle.std.specs.Prelude.{None, Some}
+use Rattle.std.specs.declared.option.Option as code
 use Rattle.std.specs.Prelude.{ℕ, ◌+◌, ◌-◌, Bool, true, not, leb, eqb}
 use Rattle.laws.specs.Choice.{also, either}
 use Rattle.layout.specs.declared.Geometry.{Geometry}
@@ -10,8 +13,6 @@ use Rattle.layout.specs.Journal.{journal_pos_add}
 use Rattle.superblock.specs.declared.Superblock.{Superblock}
 use Rattle.superblock.specs.Superblock.{increment_superblock_counter, wf_superblock}
 use Rattle.tables.specs.Rows.{counted}
-use Rattle.ready.specs.declared.MaybeLocation.{MaybeLocation}
-use Rattle.ready.specs.declared.MaybeLocation.TheVariants.{NoLocation, Received}
 use Rattle.ready.specs.declared.Frozen.{Frozen}
 use Rattle.ready.specs.declared.Commit.{Commit}
 use Rattle.ready.specs.declared.Commit.TheVariants.{CommitNone, CommitAdvanceLog, CommitAdvanceLocation}
@@ -39,9 +40,9 @@ frozen_ok g written len f =
     (leb f.frozenJournalPosition written))
 
 -- frozenLoc.Some? ==> ..
-abbrev pub location_ok : Geometry → Bool → MaybeLocation → Bool
-location_ok g isFrozen NoLocation = true
-location_ok g isFrozen (Received loc) =
+abbrev pub location_ok : Geometry → Bool → code.Option Location → Bool
+location_ok g isFrozen None = true
+location_ok g isFrozen (Some loc) =
     also (valid_indirection_table_location g loc)
     isFrozen
 

@@ -1,13 +1,13 @@
 -- The record of a machine at work, read and set: what its enums and counts say, in source 000's names.
+use Rattle.std.specs.Prelude.{None, Some}
+use Rattle.std.specs.declared.option.Option as code
 use Rattle.std.specs.Prelude.{ℕ, ◌-◌, Bool, true, false, cond, leb, eqb}
 use Rattle.layout.specs.declared.Location.{Location}
 use Rattle.layout.specs.Location.{same_location}
 use Rattle.superblock.specs.declared.Superblock.{Superblock}
 use Rattle.tables.specs.declared.IdTable.{IdTable}
 use Rattle.tables.specs.IdTable.{no_ids}
-use Rattle.memory.specs.declared.Count.{Count}
-use Rattle.ready.specs.declared.MaybeLocation.{MaybeLocation}
-use Rattle.ready.specs.declared.MaybeLocation.TheVariants.{NoLocation, Received}
+use Rattle.range.specs.declared.Count.{Count}
 use Rattle.ready.specs.declared.Frozen.{Frozen}
 use Rattle.ready.specs.declared.Commit.{Commit}
 use Rattle.ready.specs.declared.Commit.TheVariants.{CommitNone, CommitAdvanceLog, CommitAdvanceLocation}
@@ -16,13 +16,13 @@ use Rattle.ready.specs.declared.Bodies.{Bodies}
 use Rattle.ready.specs.declared.Ready.{Ready}
 
 -- frozenLoc.Some?, frozenLoc == Some(loc)
-abbrev pub is_received : MaybeLocation → Bool
-is_received NoLocation = false
-is_received (Received loc) = true
+abbrev pub is_received : code.Option Location → Bool
+is_received None = false
+is_received (Some loc) = true
 
-abbrev pub is_location : MaybeLocation → Location → Bool
-is_location NoLocation loc = false
-is_location (Received received) loc = same_location received loc
+abbrev pub is_location : code.Option Location → Location → Bool
+is_location None loc = false
+is_location (Some received) loc = same_location received loc
 
 -- superblock_write.None? and commit_status.CommitNone?, superblock_write == Some(id)
 abbrev pub no_commit : Commit → Bool
@@ -80,11 +80,11 @@ with_entries r x = record { superblock = r.superblock; whichSuperblock = r.which
 abbrev pub with_writes : Ready → IdTable → Ready
 with_writes r x = record { superblock = r.superblock; whichSuperblock = r.whichSuperblock; writtenJournalLen = r.writtenJournalLen; frozen = r.frozen; commit = r.commit; entries = r.entries; writes = x }
 
-abbrev pub frozen_at : Bool → ℕ → MaybeLocation → Frozen
+abbrev pub frozen_at : Bool → ℕ → code.Option Location → Frozen
 frozen_at isFrozen position loc = record { isFrozen = isFrozen; frozenJournalPosition = position; frozenLoc = loc }
 
 abbrev pub not_frozen : Frozen
-not_frozen = frozen_at false 0 NoLocation
+not_frozen = frozen_at false 0 None
 
 abbrev pub counts : ℕ → ℕ → ℕ → Count → Entries
 counts pending frozen replay taken = record { pending = pending; frozen = frozen; replay = replay; taken = taken }

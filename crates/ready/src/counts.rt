@@ -4,7 +4,6 @@ ghost use Rattle.ready.specs.State.{none_frozen, none_in_memory, replayed, repla
 ghost use Rattle.ready.specs.Inv.{some_frozen_ok, entries_ok};
 ghost use Rattle.ready.specs.JournalSteps.{written_entries};
 
-use super::sums::less;
 use super::{Bodies, Entries};
 use memory::Count;
 
@@ -26,23 +25,21 @@ impl Entries {
     pub(crate) fn replayed(self) -> bool
         ensures { result ≡ replayed self }
     {
-        let taken = self.taken;
-        self.replay <= taken.entries
+        self.replay <= self.taken.entries
     }
 
     // How many entries are left of the replay.
     pub fn replay_left(self) -> u64
         ensures { result ≡ replay_left self }
     {
-        let taken = self.taken;
-        less(self.replay, taken.entries)
+        self.replay.saturating_sub(self.taken.entries)
     }
 
     // What a journal write sends: the frozen entries, or if there are none those in memory.
     pub(crate) fn sent(self, bodies: Bodies) -> Count
         ensures { result ≡ sent self bodies }
     {
-        if self.frozen == 0 {
+        if self.none_frozen() {
             return Count {
                 entries: self.pending,
                 bytes: bodies.pending,
@@ -59,42 +56,42 @@ impl Entries {
         ensures { result ≡ left self bodies }
     {
         let gone = self.sent(bodies);
-        let entries = less(self.pending, gone.entries);
-        let bytes = less(bodies.pending, gone.bytes);
-        Count { entries, bytes }
+        Count {
+            entries: self.pending.saturating_sub(gone.entries),
+            bytes: bodies.pending.saturating_sub(gone.bytes),
+        }
     }
 
     // After a journal write: those that it sent are gone, and none is frozen.
-    pub(crate) fn written(mut self) -> Entries
+    pub(crate) fn written(self) -> Entries
         ensures { result ≡ written_entries self }
     {
-        let none = self.frozen == 0;
-        let rest = less(self.pending, self.frozen);
-        self.frozen = 0;
-        if none {
-            self.pending = 0;
-            return self;
+        if self.none_frozen() {
+            return Entries {
+                pending: 0,
+                frozen: 0,
+                ..self
+            };
         }
-        self.pending = rest;
-        self
+        let pending = self.pending.saturating_sub(self.frozen);
+        Entries {
+            pending,
+            frozen: 0,
+            ..self
+        }
     }
 
     // Question 2: the clauses of frozen entries.
     pub(crate) fn some_frozen_ok(self, written: u64, position: u64, frozen: bool) -> bool
         ensures { result ≡ some_frozen_ok written position frozen self }
     {
-        let none = self.frozen == 0;
-        let at = position == written;
-        none | (at & frozen)
+        self.none_frozen() || (position == written && frozen)
     }
 
     // Question 2: frozen within pending, taken within replay.
     pub(crate) fn ok(self) -> bool
         ensures { result ≡ entries_ok self }
     {
-        let taken = self.taken;
-        let a = self.frozen <= self.pending;
-        let b = taken.entries <= self.replay;
-        a & b
+        self.frozen <= self.pending && self.taken.entries <= self.replay
     }
 }

@@ -1,72 +1,65 @@
 // Freeze, and ReceiveFrozenLoc.
 ghost use Rattle.std.specs.Prelude.{◌≡◌};
+ghost use Rattle.refusal.specs.Refusal.{asked};
 ghost use Rattle.ready.specs.FreezeSteps.{ask_freeze, freeze_next, ask_receive_frozen_loc, receive_frozen_loc_next};
 
-use super::{Frozen, MaybeLocation, Ready};
+use super::freezing::is_location;
+use super::{Entries, Frozen, Ready};
 use layout::{Geometry, Location};
+use refusal::Refusal;
 
 impl Ready {
     // Freeze: 6 a commit is in flight, the location last received is the superblock's, or something is left of the replay.
-    pub fn ask_freeze(self) -> u8
-        ensures { result ≡ ask_freeze self }
+    pub fn ask_freeze(self) -> Result<(), Refusal>
+        ensures { result ≡ asked (ask_freeze self) }
     {
-        let s = self.superblock;
-        let f = self.frozen;
-        let commit = self.commit;
-        let received = f.frozenLoc;
-        let loc = s.indirectionTableLoc;
-        let a = commit.is_none();
-        let b = received.is_location(loc);
-        let c = self.replayed();
-        if a & !b & c {
-            return 0;
+        let received = is_location(self.frozen.frozenLoc, self.superblock.indirectionTableLoc);
+        if self.commit.is_none() && !received && self.replayed() {
+            return Ok(());
         }
-        6
+        Err(Refusal::Condition)
     }
 
     // All pending entries are frozen, up to what is written.
-    pub fn freeze_next(mut self) -> Ready
+    pub fn freeze_next(self) -> Ready
         ensures { result ≡ freeze_next self }
     {
         let frozen = Frozen {
             isFrozen: true,
             frozenJournalPosition: self.writtenJournalLen,
-            frozenLoc: MaybeLocation::NoLocation,
+            frozenLoc: None,
         };
-        let mut e = self.entries;
-        e.frozen = e.pending;
-        self.frozen = frozen;
-        self.entries = e;
-        self
+        let entries = Entries {
+            frozen: self.entries.pending,
+            ..self.entries
+        };
+        Ready {
+            frozen,
+            entries,
+            ..self
+        }
     }
 
     // ReceiveFrozenLoc: 4 the location isn't a table's; 6 nothing is frozen, or one was received.
-    pub fn ask_receive_frozen_loc(self, g: Geometry, loc: Location) -> u8
-        ensures { result ≡ ask_receive_frozen_loc g self loc }
+    pub fn ask_receive_frozen_loc(self, g: Geometry, loc: Location) -> Result<(), Refusal>
+        ensures { result ≡ asked (ask_receive_frozen_loc g self loc) }
     {
-        let valid = loc.valid_table(g);
-        if valid {
-            let f = self.frozen;
-            let old = f.frozenLoc;
-            let received = old.is_received();
-            if f.isFrozen & !received {
-                return 0;
-            }
-            return 6;
+        if !loc.valid_table(g) {
+            return Err(Refusal::Argument);
         }
-        4
+        if self.frozen.isFrozen && self.frozen.frozenLoc.is_none() {
+            return Ok(());
+        }
+        Err(Refusal::Condition)
     }
 
-    pub fn receive_frozen_loc_next(mut self, loc: Location) -> Ready
+    pub fn receive_frozen_loc_next(self, loc: Location) -> Ready
         ensures { result ≡ receive_frozen_loc_next self loc }
     {
-        let f = self.frozen;
         let frozen = Frozen {
-            isFrozen: f.isFrozen,
-            frozenJournalPosition: f.frozenJournalPosition,
-            frozenLoc: MaybeLocation::Received(loc),
+            frozenLoc: Some(loc),
+            ..self.frozen
         };
-        self.frozen = frozen;
-        self
+        Ready { frozen, ..self }
     }
 }

@@ -8,11 +8,7 @@ impl Commit {
     pub(crate) fn is_none(self) -> bool
         ensures { result ≡ no_commit self }
     {
-        match self {
-            Commit::CommitNone => true,
-            Commit::CommitAdvanceLog { id: _, new: _ } => false,
-            Commit::CommitAdvanceLocation { id: _, new: _ } => false,
-        }
+        matches!(self, Commit::CommitNone)
     }
 
     // Is its superblock write under this id?
@@ -21,8 +17,8 @@ impl Commit {
     {
         match self {
             Commit::CommitNone => false,
-            Commit::CommitAdvanceLog { id: k, new: _ } => k == id,
-            Commit::CommitAdvanceLocation { id: k, new: _ } => k == id,
+            Commit::CommitAdvanceLog { id: k, .. } | Commit::CommitAdvanceLocation { id: k, .. } =>
+                k == id,
         }
     }
 }

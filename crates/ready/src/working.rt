@@ -15,27 +15,22 @@ impl Ready {
     pub fn loaded(superblock: Superblock, which: u64, replay: u64) -> Ready
         ensures { result ≡ loaded superblock which replay }
     {
-        let written = superblock.journalLen;
-        let frozen = Frozen::not_frozen();
-        let taken = Count {
-            entries: 0,
-            bytes: 0,
-        };
-        let entries = Entries {
-            pending: 0,
-            frozen: 0,
-            replay,
-            taken,
-        };
-        let writes = IdTable::empty();
         Ready {
             superblock,
             whichSuperblock: which,
-            writtenJournalLen: written,
-            frozen,
+            writtenJournalLen: superblock.journalLen,
+            frozen: Frozen::not_frozen(),
             commit: Commit::CommitNone,
-            entries,
-            writes,
+            entries: Entries {
+                pending: 0,
+                frozen: 0,
+                replay,
+                taken: Count {
+                    entries: 0,
+                    bytes: 0,
+                },
+            },
+            writes: IdTable::empty(),
         }
     }
 
@@ -43,39 +38,34 @@ impl Ready {
     pub fn none_frozen(self) -> bool
         ensures { result ≡ none_frozen self.entries }
     {
-        let e = self.entries;
-        e.none_frozen()
+        self.entries.none_frozen()
     }
 
     // Is no entry in memory?
     pub fn none_in_memory(self) -> bool
         ensures { result ≡ none_in_memory self.entries }
     {
-        let e = self.entries;
-        e.none_in_memory()
+        self.entries.none_in_memory()
     }
 
     // Is nothing left of the replay?
     pub fn replayed(self) -> bool
         ensures { result ≡ replayed self.entries }
     {
-        let e = self.entries;
-        e.replayed()
+        self.entries.replayed()
     }
 
     // The pending entries that a journal write sends, and those that it leaves.
     pub fn sent(self, bodies: Bodies) -> Count
         ensures { result ≡ sent self.entries bodies }
     {
-        let e = self.entries;
-        e.sent(bodies)
+        self.entries.sent(bodies)
     }
 
     pub fn left(self, bodies: Bodies) -> Count
         ensures { result ≡ left self.entries bodies }
     {
-        let e = self.entries;
-        e.left(bodies)
+        self.entries.left(bodies)
     }
 
     // The slot that a commit writes: the other one.
@@ -92,7 +82,6 @@ impl Ready {
     pub(crate) fn none_outstanding(self) -> bool
         ensures { result ≡ none_outstanding self }
     {
-        let w = self.writes;
-        w.count == 0
+        self.writes.count == 0
     }
 }

@@ -2,14 +2,7 @@
 use super::said;
 use layout::Geometry;
 use std::env::{Env, FillError};
-use words::{Parsed, Word};
-
-// The geometry of a disk, or none: a line said then which number is wrong.
-#[derive(Clone, Copy)]
-pub(crate) enum Asked {
-    Is(Geometry),
-    Told,
-}
+use words::Word;
 
 const MOST_BLOCKS: u64 = 256;
 
@@ -32,29 +25,10 @@ fn count(rt: &HostRuntime) -> usize {
 // How many disks are named: none where it isn't three arguments for each.
 pub(crate) fn disk_count(rt: &HostRuntime) -> usize {
     let n = count(rt);
-    if n < 4 {
-        return 0;
-    }
-    if (n - 1) % 3 != 0 {
+    if n < 4 || (n - 1) % 3 != 0 {
         return 0;
     }
     (n - 1) / 3
-}
-
-// The next disk's first argument.
-pub(crate) fn next(i: usize) -> usize {
-    if usize::MAX - 3 < i {
-        return i;
-    }
-    i + 3
-}
-
-// The number after this one; the largest stays.
-fn after(i: usize) -> usize {
-    if i == usize::MAX {
-        return i;
-    }
-    i + 1
 }
 
 // The number that argument i says; 0 where it says none.
@@ -64,37 +38,30 @@ fn number(rt: &HostRuntime, i: usize) -> u64 {
         return 0;
     };
     let all = Word { from: 0, to: n };
-    let d = words::decimal(&word[..n], all);
-    match d {
-        Parsed::Is(v) => v,
-        Parsed::Not => 0,
-    }
+    words::decimal(&word[..n], all).unwrap_or(0)
 }
 
 fn within(v: u64, most: u64) -> bool {
-    if 0 < v {
-        return v <= most;
-    }
-    false
+    0 < v && v <= most
 }
 
-// N and T of the disk whose file is argument i.
-pub(crate) fn geometry(rt: &HostRuntime, i: usize, name: &[u8]) -> Asked {
-    let j = after(i);
-    let k = after(j);
+// N and T of the disk whose file is argument i; none where a line said which number is wrong.
+pub(crate) fn geometry(rt: &HostRuntime, i: usize, name: &[u8]) -> Option<Geometry> {
+    let j = i.saturating_add(1);
+    let k = i.saturating_add(2);
     let blocks = number(rt, j);
     let table = number(rt, k);
     if !within(blocks, Geometry::MOST_BLOCKS) {
         said::not_number(rt, name, b": N is a number from 1 to 4096, not ", j);
-        return Asked::Told;
+        return None;
     }
     if MOST_BLOCKS < blocks {
         said::too_many(rt, name);
-        return Asked::Told;
+        return None;
     }
     if !within(table, Geometry::MOST_TABLE) {
         said::not_number(rt, name, b": T is a number from 1 to 16777216, not ", k);
-        return Asked::Told;
+        return None;
     }
-    Asked::Is(Geometry { blocks, table })
+    Some(Geometry { blocks, table })
 }

@@ -1,22 +1,18 @@
 // One disk: its bytes, its record, its rows.
-use super::arguments::Asked;
 use super::ranges::put_ranges;
 use super::rows::Rows;
 use super::slots::Sectors;
 use super::{arguments, input, rows, said, slots};
-use image::{Recorded, read_slot};
+use image::{Held, Refused, read_slot};
 use journal::bytes_of;
 use layout::Geometry;
-use runs::lesser;
+use refusal::Refusal;
 use sector::SECTOR_SIZE;
 use std::env::Env;
 use std::io::Stdout;
 use superblock::Superblock;
 
 const HEAD_SIZE: usize = Geometry::JOURNAL_START_ADDR as usize;
-
-// The number of a refusal by the interval's own bytes.
-const NO_RANGES: u8 = 7;
 
 // The rows of the selected interval's ranges: where it lies straight its bytes are the disk's own, else they are in pieces.
 fn put_interval(
@@ -31,7 +27,7 @@ fn put_interval(
 ) -> Rows {
     let start = s.journalStart;
     let size = bytes_of(s.journalLen, pieces.len());
-    let at = lesser(HEAD_SIZE + bytes_of(start, pieces.len()), disk.len());
+    let at = (HEAD_SIZE + bytes_of(start, pieces.len())).min(disk.len());
     if size <= disk.len() - at {
         return put_ranges(start, g, &disk[at..at + size], rbytes, rlens, text, r);
     }
@@ -41,7 +37,7 @@ fn put_interval(
 // The rows of what was found: where both slots are sound, which is selected; then the ranges, or the refusal.
 fn put_found(
     g: Geometry,
-    found: Recorded,
+    found: Result<Held, Refused>,
     sectors: Sectors,
     disk: &[u8],
     pieces: &[u8],
@@ -51,27 +47,24 @@ fn put_found(
     r: Rows,
 ) -> Rows {
     match found {
-        Recorded::Held {
-            superblock,
-            which,
-            entries,
-            bytes,
-        } => {
+        Ok(record) => {
+            let s = record.superblock;
             let a = slots::put_selected(g, sectors, text, r);
-            let b = put_interval(g, superblock, disk, pieces, rbytes, rlens, text, a);
-            rows::put_two(b"record", entries, bytes, text, b)
+            let b = put_interval(g, s, disk, pieces, rbytes, rlens, text, a);
+            rows::put_two(b"record", record.entries, record.bytes, text, b)
         },
-        Recorded::Refused { number, slot } => put_refused(g, number, sectors, text, r),
+        Err(refused) => put_refused(g, refused.no, sectors, text, r),
     }
 }
 
 // A refusal by the interval's own bytes comes after the selection.
-fn put_refused(g: Geometry, number: u8, sectors: Sectors, text: &mut [u8], r: Rows) -> Rows {
-    if number == NO_RANGES {
+fn put_refused(g: Geometry, no: Refusal, sectors: Sectors, text: &mut [u8], r: Rows) -> Rows {
+    let number = no.number() as u64;
+    if no == Refusal::Parse {
         let a = slots::put_selected(g, sectors, text, r);
-        return rows::put_one(b"refused", number as u64, text, a);
+        return rows::put_one(b"refused", number, text, a);
     }
-    rows::put_one(b"refused", number as u64, text, r)
+    rows::put_one(b"refused", number, text, r)
 }
 
 // All rows of a disk, by memory of the lengths that N asks for.
@@ -130,7 +123,7 @@ fn show_named(
     text: &mut [u8],
 ) -> bool {
     let size = bytes_of(g.blocks, pieces.len());
-    let d = lesser(HEAD_SIZE + size, disk.len());
+    let d = (HEAD_SIZE + size).min(disk.len());
     let read = input::load(rt, name, g.blocks, &mut disk[0..d]);
     if read {
         return show_read(rt.stdout(), g, &disk[0..d], pieces, rbytes, rlens, text);
@@ -153,9 +146,8 @@ pub(crate) fn show(
         said::no_name(rt, i);
         return true;
     };
-    let asked = arguments::geometry(rt, i, &name[..n]);
-    match asked {
-        Asked::Is(g) => show_named(rt, g, &name[..n], disk, pieces, rbytes, rlens, text),
-        Asked::Told => true,
+    match arguments::geometry(rt, i, &name[..n]) {
+        Some(g) => show_named(rt, g, &name[..n], disk, pieces, rbytes, rlens, text),
+        None => true,
     }
 }

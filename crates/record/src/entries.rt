@@ -1,7 +1,6 @@
 // The rows of entries, from replay memory.
 use super::rows;
 use super::rows::{Rows, put_number};
-use runs::lesser;
 use text::{put, put_hex};
 
 // How far the rows came: the next range's first block and its place in the interval's bytes, the next entry and where its body begins in
@@ -26,10 +25,6 @@ fn put_entry(number: u64, body: &[u8], text: &mut [u8], r: Rows) -> Rows {
     rows::end(s, text, e)
 }
 
-fn wide(x: u16) -> usize {
-    x as usize
-}
-
 // The next entry.
 fn turn(w: Walk, rbytes: &[u8], rlens: &[u16], text: &mut [u8]) -> Walk {
     let i = w.entry;
@@ -37,16 +32,15 @@ fn turn(w: Walk, rbytes: &[u8], rlens: &[u16], text: &mut [u8]) -> Walk {
     if rlens.len() <= i {
         return w;
     }
-    let from = lesser(w.body, rbytes.len());
-    let size = lesser(wide(rlens[i]), rbytes.len() - from);
+    let from = w.body.min(rbytes.len());
+    let size = (rlens[i] as usize).min(rbytes.len() - from);
     let to = from + size;
     let next = put_entry((i + 1) as u64, &rbytes[from..to], text, r);
     Walk {
         rows: next,
-        block: w.block,
-        place: w.place,
         entry: i + 1,
         body: to,
+        ..w
     }
 }
 
@@ -58,9 +52,7 @@ pub(crate) fn put_entries(
     rlens: &[u16],
     text: &mut [u8],
 ) -> Walk {
-    let mut left = count;
-    while 0 < left {
-        left -= 1;
+    for _ in 0..count {
         w = turn(w, rbytes, rlens, text);
     }
     w

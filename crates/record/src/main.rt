@@ -12,20 +12,7 @@ mod rows;
 mod said;
 mod slots;
 
-ghost use Rattle.std.specs.Prelude.{cond, ◌≡◌, ◌-◌, ◌<◌};
-
-// The disks that are left after one; none where its rows couldn't be written, which is said.
-fn disks_left(rt: &HostRuntime, left: usize, written: bool) -> usize
-    requires { 0 < left }
-    ensures { result ≡ cond written (left - 1) 0 }
-{
-    if written {
-        return left - 1;
-    }
-    said::not_written(rt);
-    0
-}
-
+// The disks in turn, up to one whose rows couldn't be written, which is said.
 fn run(
     rt: &HostRuntime,
     disks: usize,
@@ -35,12 +22,13 @@ fn run(
     rlens: &mut [u16],
     text: &mut [u8],
 ) {
-    let mut left = disks;
-    let mut i = 1;
-    while 0 < left {
-        let written = disks::show(rt, i, disk, pieces, rbytes, rlens, text);
-        i = arguments::next(i);
-        left = disks_left(rt, left, written);
+    let mut i: usize = 1;
+    for _ in 0..disks {
+        if !disks::show(rt, i, disk, pieces, rbytes, rlens, text) {
+            said::not_written(rt);
+            return;
+        }
+        i = i.saturating_add(3);
     }
 }
 

@@ -3,10 +3,9 @@ use super::entries::{Walk, put_entries};
 use super::rows;
 use super::rows::{Rows, put_number};
 use journal::bytes_of;
-use layout::{Geometry, Position, journal_pos_add};
+use layout::{Geometry, journal_pos_add};
 use range::BLOCK_SIZE;
-use reader::{Contents, Front, range_in_front};
-use runs::lesser;
+use reader::{Contents, range_in_front};
 use text::put;
 
 // `range 6 1 2`.
@@ -21,15 +20,11 @@ fn put_range(block: u64, c: Contents, text: &mut [u8], r: Rows) -> Rows {
 
 // The block behind so many, going round.
 fn block_after(g: Geometry, block: u64, blocks: u64) -> u64 {
-    let p = journal_pos_add(g, block, blocks);
-    match p {
-        Position::At(next) => next,
-        Position::Refused(_) => block,
-    }
+    journal_pos_add(g, block, blocks).unwrap_or(block)
 }
 
 fn place_after(place: usize, blocks: u64, end: usize) -> usize {
-    let from = lesser(place, end);
+    let from = place.min(end);
     let size = bytes_of(blocks, end - from);
     from + size
 }
@@ -53,18 +48,17 @@ fn show_range(
         rows: next,
         block,
         place,
-        entry: w.entry,
-        body: w.body,
+        ..w
     };
     put_entries(from, c.entries, rbytes, rlens, text)
 }
 
 fn turn(w: Walk, g: Geometry, s: &[u8], rbytes: &[u8], rlens: &[u16], text: &mut [u8]) -> Walk {
-    let at = lesser(w.place, s.len());
+    let at = w.place.min(s.len());
     let f = range_in_front(&s[at..]);
     match f {
-        Front::Range(c) => show_range(w, g, c, s.len(), rbytes, rlens, text),
-        Front::Nothing => w,
+        Some(c) => show_range(w, g, c, s.len(), rbytes, rlens, text),
+        None => w,
     }
 }
 
@@ -85,9 +79,7 @@ pub(crate) fn put_ranges(
         entry: 0,
         body: 0,
     };
-    let mut left = s.len() / BLOCK_SIZE;
-    while 0 < left {
-        left -= 1;
+    for _ in 0..s.len() / BLOCK_SIZE {
         w = turn(w, g, s, rbytes, rlens, text);
     }
     w.rows

@@ -1,5 +1,4 @@
 // Rows are gathered in lent text, and written when a row more might not fit.
-use runs::lesser;
 use std::io::Stdout;
 use text::{put, put_decimal};
 
@@ -32,14 +31,14 @@ pub(crate) fn flush(r: Rows, text: &[u8]) -> Rows {
             out,
         };
     }
-    let n = lesser(r.at, text.len());
+    let n = r.at.min(text.len());
     let ok = out.write_all(&text[0..n]).is_ok();
     Rows { at: 0, ok, out }
 }
 
 // Room for one row more.
 pub(crate) fn room(r: Rows, text: &[u8]) -> Rows {
-    let n = lesser(r.at, text.len());
+    let n = r.at.min(text.len());
     if text.len() - n < ROW_SIZE {
         return flush(r, text);
     }
@@ -55,11 +54,7 @@ pub(crate) fn put_number(n: u64, text: &mut [u8], at: usize) -> usize {
 // The row's end, behind what is gathered from `at` on.
 pub(crate) fn end(r: Rows, text: &mut [u8], at: usize) -> Rows {
     let a = put(b"\n", text, at);
-    Rows {
-        at: a,
-        ok: r.ok,
-        out: r.out,
-    }
+    Rows { at: a, ..r }
 }
 
 // A word and a number: `refused 12`.

@@ -1,5 +1,4 @@
 // What is said on standard error: a line each, written at once.
-use runs::lesser;
 use std::env::Env;
 use std::io;
 use text::{put, put_decimal};
@@ -9,7 +8,7 @@ const LINE_SIZE: usize = 4608;
 
 // A line that can't be written is lost.
 fn say(rt: &HostRuntime, line: &[u8], end: usize) {
-    let n = lesser(end, line.len());
+    let n = end.min(line.len());
     let _ = rt.stderr().write_all(&line[0..n]);
 }
 

@@ -1,24 +1,24 @@
 // The rows of the two slots, of the one that is selected, and of its interval's parts.
 use super::rows;
 use super::rows::{Rows, put_number};
-use interval::MaybeInterval;
+use interval::JournalInterval;
 use layout::Geometry;
-use sector::{SectorRead, Selection, select};
+use refusal::Refusal;
+use sector::{Selection, select};
 use superblock::{Superblock, select_superblock};
 use text::put;
 
 // What the two sectors are read as.
 #[derive(Clone, Copy)]
 pub(crate) struct Sectors {
-    pub first: SectorRead,
-    pub second: SectorRead,
+    pub first: Result<Superblock, Refusal>,
+    pub second: Result<Superblock, Refusal>,
 }
 
 // 2 where the superblock isn't well formed, and its five numbers.
 fn put_superblock(g: Geometry, s: Superblock, text: &mut [u8], at: usize) -> usize {
     let loc = s.indirectionTableLoc;
-    let q = refusal(g, s);
-    let a = put_number(q, text, at);
+    let a = put_number(well_formed(g, s), text, at);
     let b = put_number(s.counter, text, a);
     let c = put_number(s.journalStart, text, b);
     let d = put_number(s.journalLen, text, c);
@@ -26,23 +26,29 @@ fn put_superblock(g: Geometry, s: Superblock, text: &mut [u8], at: usize) -> usi
     put_number(loc.len, text, e)
 }
 
-fn refusal(g: Geometry, s: Superblock) -> u64 {
-    let ok = s.well_formed(g);
-    if ok {
+// 0, or the number of a no to question 2.
+fn well_formed(g: Geometry, s: Superblock) -> u64 {
+    if s.well_formed(g) {
         return 0;
     }
-    2
+    Refusal::State.number() as u64
 }
 
-fn put_read(g: Geometry, r: SectorRead, text: &mut [u8], at: usize) -> usize {
+fn put_read(g: Geometry, r: Result<Superblock, Refusal>, text: &mut [u8], at: usize) -> usize {
     match r {
-        SectorRead::Holds(s) => put_superblock(g, s, text, at),
-        SectorRead::Refused(q) => put_number(q as u64, text, at),
+        Ok(s) => put_superblock(g, s, text, at),
+        Err(no) => put_number(no.number() as u64, text, at),
     }
 }
 
 // `slot 1 0 7 6 5 40960 4096`, or `slot 1 12`.
-pub(crate) fn put_slot(slot: u64, g: Geometry, read: SectorRead, text: &mut [u8], r: Rows) -> Rows {
+pub(crate) fn put_slot(
+    slot: u64,
+    g: Geometry,
+    read: Result<Superblock, Refusal>,
+    text: &mut [u8],
+    r: Rows,
+) -> Rows {
     let s = rows::room(r, text);
     let a = put(b"slot", text, s.at);
     let b = put_number(slot, text, a);
@@ -67,10 +73,10 @@ fn put_selection(s: Selection, text: &mut [u8], at: usize) -> usize {
     }
 }
 
-fn put_part(word: &[u8], part: MaybeInterval, text: &mut [u8], r: Rows) -> Rows {
+fn put_part(word: &[u8], part: Option<JournalInterval>, text: &mut [u8], r: Rows) -> Rows {
     match part {
-        MaybeInterval::Is(v) => rows::put_two(word, v.start, v.len, text, r),
-        MaybeInterval::Nothing => r,
+        Some(v) => rows::put_two(word, v.start, v.len, text, r),
+        None => r,
     }
 }
 
@@ -85,10 +91,10 @@ fn put_parts(g: Geometry, s: Superblock, text: &mut [u8], r: Rows) -> Rows {
 pub(crate) fn put_selected(g: Geometry, sectors: Sectors, text: &mut [u8], r: Rows) -> Rows {
     let first = sectors.first;
     let second = sectors.second;
-    let SectorRead::Holds(s) = first else {
+    let Ok(s) = first else {
         return r;
     };
-    let SectorRead::Holds(t) = second else {
+    let Ok(t) = second else {
         return r;
     };
     let room = rows::room(r, text);

@@ -1,5 +1,6 @@
 -- The record of a disk, of the code: its own store, by the definitions that its promises cite, and the two functions `record` and `record_marked`.
 use Rattle.std.specs.Prelude.{ℕ, ◌*◌, Bool, true, ◌≡◌, List, map, length}
+use Rattle.std.specs.declared.option.Option as code
 use Rattle.std.proofs.Common.{sym, ◌∙◌, ap, subst}
 use Rattle.laws.specs.Bytes.{Bytes}
 use Rattle.laws.specs.Choice.{and_then, and_then_left}
@@ -7,7 +8,7 @@ use Rattle.layout.specs.declared.Geometry.{Geometry}
 use Rattle.layout.specs.declared.Location.{Location}
 use Rattle.interval.specs.Facts.{ValidJournalInterval}
 use Rattle.interval.specs.Journal.{cyclic_slice, full_range}
-use Rattle.superblock.specs.declared.MaybeSuperblock.{MaybeSuperblock}
+use Rattle.superblock.specs.declared.Superblock.{Superblock}
 use Rattle.journal.specs.Memory.{ask_marks, ask_readable}
 use Rattle.journal.specs.Asked.{asked_journal, readable_asked}
 use Rattle.journal.specs.Cells.{block_at, cells, length_cells, full_marks_is}
@@ -24,13 +25,12 @@ use Rattle.history.proofs.Whole.First.{first_parity, init_sim}
 use Rattle.history.proofs.Whole.Lists.{sim_run}
 use Rattle.history.proofs.Whole.Stores.{ran_trace}
 use Rattle.sector.specs.Sector.{sector_size}
-use Rattle.image.specs.declared.Choice.{Choice}
-use Rattle.image.specs.Image.{Lent, slot_read, superblock1, superblock2, interval_of, selected, ask_lent, chosen, unmarked, marked, ask_record, image_of}
+use Rattle.image.specs.Image.{Lent, slot_read, superblock1, superblock2, interval_of, selected, ask_lent, chosen, unmarked, marked, ask_record, image_of, Chosen}
 use Rattle.image.specs.Written.{first_written, second_written, blocks_written}
 use Rattle.image.specs.Asked.{SlotsAsked, selected_formed}
 use Rattle.image.proofs.FoundLaws.{chosen_record, marked_record}
 use Rattle.machine.specs.declared.Kind.TheVariants as kind
-use Rattle.requests.specs.declared.Slots.{Slots}
+use Rattle.requests.specs.Slots.{Slots}
 use Rattle.store.specs.Lent as store
 use Rattle.store.specs.Lent.{machine_lent}
 use Rattle.refine.specs.Disk.View as lentDisk
@@ -49,7 +49,7 @@ use Rattle.records.specs.Proofs.Stores.{store_pictured, asks_record, loaded_form
 -- At every time of a history of the code, from a state that is seen as an `Init`, whatever calls were taken or refused: the record of the bytes that picture
 -- the store is what the ledger has kept then
 pub code_record_tells : (g : Geometry) (disk : List ℕ) (l : Lent) (first : Y.Variables) (loc : Location) (i : Y.Init g first loc) (s : State) (calls : List Made) (answers : List Bool) (t : State)
-    → state_seen g s ≡ first → Ran (code_store g) s calls answers t → StorePictures g disk t → (c : Choice) → Asks g disk l t c
+    → state_seen g s ≡ first → Ran (code_store g) s calls answers t → StorePictures g disk t → (c : Chosen) → Asks g disk l t c
     → RecordIs g disk c l (kept_by g first loc i (books g format (begin (superblock_of_disk g first.disk i.wf)) (map (code_store g).call calls) answers))
 code_record_tells g disk l first loc i s calls answers t e h pic c a =
     asks_record g disk l t pic _
@@ -62,7 +62,7 @@ code_record_tells g disk l first loc i s calls answers t e h pic c a =
 pub code_load_records : (g : Geometry) (disk : List ℕ) (l : Lent) (s : State) (calls : List Made) (answers : List Bool) (t : State)
     → (state_seen g s).machine ≡ M.Variables.LoadingSuperblock M.initial → StorePictures g disk s
     → Ran (code_store g) s calls answers t → OnlyOfLoad (map (code_store g).call calls) answers → t.store.machine.kind ≡ kind.Ready
-    → (c : Choice) → Asks g disk l s c → CodeRecordIs g disk c l t
+    → (c : Chosen) → Asks g disk l s c → CodeRecordIs g disk c l t
 code_load_records g disk l s calls answers t e pic h only k c a =
     let q = work_seen g (machine_lent t.lent) t.store.machine k in
     ready_record g disk c l t k (loaded_formed g s t calls answers (ready_seen t) e h q)
@@ -137,8 +137,8 @@ code_record_brings g disk l m slots ml dl bytes pic held =
 pub written_pictures : (g : Geometry) (s : State) → SlotFits s.store.disk.slots.first → SlotFits s.store.disk.slots.second → length s.lent.blocks ≡ g.blocks * 4096
     → StorePictures g (image_of s.store.disk.slots.first s.store.disk.slots.second s.lent.blocks) s
 written_pictures g s a b n =
-    let first : MaybeSuperblock = s.store.disk.slots.first in
-    let second : MaybeSuperblock = s.store.disk.slots.second in
+    let first : (code.Option Superblock) = s.store.disk.slots.first in
+    let second : (code.Option Superblock) = s.store.disk.slots.second in
     record {
       first = slot_said first a ∙ sym (ap said (first_written first second s.lent.blocks));
       second = slot_said second b ∙ sym (ap said (second_written first second s.lent.blocks));

@@ -1,21 +1,18 @@
 -- What is said of the record of a disk: when bytes picture a disk, what a load may consist of, and what it is that a record is a machine's.
-use Rattle.std.specs.Prelude.{ℕ, Bool, true, false, ◌≡◌, List, [], ◌∷◌, length, get_or}
+use Rattle.std.specs.Prelude.{ℕ, Bool, true, false, ◌≡◌, List, [], ◌∷◌, get_or, Ok, Err, Result}
 use Rattle.std.proofs.Math.Option.{Option, none, some}
 use Rattle.laws.specs.Cut.{flat, lengths}
-use Rattle.laws.specs.Fold.{sum}
 use Rattle.laws.specs.Sets.{Two, at}
 use Rattle.laws.specs.Splice.{splice}
+use Rattle.refusal.specs.declared.Refusal.{Refusal}
 use Rattle.layout.specs.declared.Geometry.{Geometry}
 use Rattle.interval.specs.Journal.{JournalBlock}
 use Rattle.superblock.specs.declared.Superblock.{Superblock}
 use Rattle.journal.specs.Cells.{block_at}
-use Rattle.sector.specs.declared.SectorRead.{SectorRead}
-use Rattle.sector.specs.declared.SectorRead.TheVariants as read
 use Rattle.sector.specs.Sector.{sector_size}
-use Rattle.image.specs.declared.Choice.{Choice}
-use Rattle.image.specs.declared.Recorded.{Recorded}
-use Rattle.image.specs.declared.Recorded.TheVariants as recorded
-use Rattle.image.specs.Image.{Lent, slot_read, journal_of, record_of, record_lent}
+use Rattle.image.specs.declared.Held.{Held}
+use Rattle.image.specs.declared.Refused.{Refused}
+use Rattle.image.specs.Image.{Lent, slot_read, journal_of, record_of, record_lent, Chosen, held}
 use Rattle.codec.specs.Format.{format}
 use Rattle.source.specs.JournalDisk as D
 use Rattle.source.specs.JournalCache as M
@@ -30,9 +27,9 @@ use Rattle.history.proofs.Loads.Superblocks.{resting}
 -- Bytes picture a disk: what a slot's sector says, where it says anything, is what the slot holds; what lies in the place of a block that can be
 -- read is the block. In the place of one that can't be read anything may lie.
 
-abbrev pub said : SectorRead → Option Superblock
-said (read.Holds s) = some s
-said (read.Refused q) = none
+abbrev pub said : Result Superblock Refusal → Option Superblock
+said (Ok s) = some s
+said (Err q) = none
 
 pub record Pictures (g : Geometry) (disk : List ℕ) (d : D.Variables) : Type 0 where
   pub first : at d.superblocks false ≡ said (slot_read disk 0)
@@ -74,10 +71,10 @@ OnlyOfLoad (x ∷ xs) (b ∷ bs) = (b ≡ true → of_load x ≡ true) × OnlyOf
 -- The record by a choice c, with l lent, is a machine's at Ready: the answer has its superblock, its slot, how many replay entries it has and how many
 -- bytes these have; and replay memory begins with their bytes, and with their lengths.
 
-abbrev pub shown_by : M.ReadyVariables → Recorded
-shown_by r = recorded.Held r.superblock (bit r.whichSuperblock) (length r.replay_journal) (sum (lengths r.replay_journal))
+abbrev pub shown_by : M.ReadyVariables → Result Held Refused
+shown_by r = Ok (held r.superblock (bit r.whichSuperblock) r.replay_journal)
 
-pub record RecordIs (g : Geometry) (disk : List ℕ) (c : Choice) (l : Lent) (r : M.ReadyVariables) : Type 0 where
+pub record RecordIs (g : Geometry) (disk : List ℕ) (c : Chosen) (l : Lent) (r : M.ReadyVariables) : Type 0 where
   pub answer : record_of g disk c ≡ shown_by r
   pub bytes : (record_lent g disk c l).rbytes ≡ splice l.rbytes 0 (flat r.replay_journal)
   pub lens : (record_lent g disk c l).rlens ≡ splice l.rlens 0 (lengths r.replay_journal)
@@ -88,7 +85,7 @@ pub record RecordIs (g : Geometry) (disk : List ℕ) (c : Choice) (l : Lent) (r 
 abbrev pub at_rest : Two (Option Superblock) → List (Option JournalBlock) → Y.Variables
 at_rest slots j = record { machine = M.Variables.LoadingSuperblock M.initial; disk = resting slots j }
 
-pub record Brought (g : Geometry) (disk : List ℕ) (c : Choice) (l : Lent) (slots : Two (Option Superblock)) (j : List (Option JournalBlock)) : Type 0 where
+pub record Brought (g : Geometry) (disk : List ℕ) (c : Chosen) (l : Lent) (slots : Two (Option Superblock)) (j : List (Option JournalBlock)) : Type 0 where
   pub calls : List Call
   pub end : Y.Variables
   pub ready : M.ReadyVariables

@@ -1,51 +1,43 @@
 // What the disk does when it answers a request (001's AckRead and AckWrite), after questions 1 and 2. Each function decides by value and
 // shared slices and asks the other questions; none is a step by itself.
 ghost use Rattle.std.specs.Prelude.{◌≡◌};
+ghost use Rattle.refusal.specs.Refusal.{asked};
 ghost use Rattle.requests.specs.Acknowledge.{ask_waiting, may_read, read_from, ask_ack_read_superblock, holds_read, ask_read_superblock_as, read_acked, held_interval, ask_ack_read_journal, landed, ask_ack_write_superblock, ask_ack_write_journal, interval_left};
 
 use super::by_slot::{ask_which, is_write};
 use super::{Slots, SuperblockReads, SuperblockWrite, SuperblockWrites};
 use interval::JournalInterval;
-use superblock::{MaybeSuperblock, SuperblockRead};
-use tables::{Held, IntervalTable};
+use refusal::Refusal;
+use superblock::Superblock;
+use tables::IntervalTable;
 
 // Questions 4 and 5 of a superblock read's answer: does the id wait in that slot's table?
-fn ask_waiting(reads: SuperblockReads, which: u64, id: u64) -> u8
-    ensures { result ≡ ask_waiting reads which id }
+fn ask_waiting(reads: SuperblockReads, which: u64, id: u64) -> Result<(), Refusal>
+    ensures { result ≡ asked (ask_waiting reads which id) }
 {
-    let q = ask_which(which);
-    if q != 0 {
-        return q;
-    }
+    ask_which(which)?;
     let table = reads.at(which);
-    let there = table.has(id);
-    if there {
-        return 0;
+    if table.has(id) {
+        return Ok(());
     }
-    5
+    Err(Refusal::Id)
 }
 
 // May the slot be read so? Damaged always, whole where it holds a superblock.
-fn may_read(whole: bool, slot: MaybeSuperblock) -> bool
+fn may_read(whole: bool, slot: Option<Superblock>) -> bool
     ensures { result ≡ may_read whole slot }
 {
-    match slot {
-        MaybeSuperblock::Holds(_) => true,
-        MaybeSuperblock::Empty => !whole,
-    }
+    slot.is_some() || !whole
 }
 
 // What such a read brings.
-pub fn read_from(whole: bool, slot: MaybeSuperblock) -> SuperblockRead
+pub fn read_from(whole: bool, slot: Option<Superblock>) -> Option<Superblock>
     ensures { result ≡ read_from whole slot }
 {
     if whole {
-        let MaybeSuperblock::Holds(s) = slot else {
-            return SuperblockRead::Damaged;
-        };
-        return SuperblockRead::Whole(s);
+        return slot;
     }
-    SuperblockRead::Damaged
+    None
 }
 
 // Questions 4, 5 and 6 of a superblock read's answer.
@@ -55,29 +47,25 @@ pub fn ask_ack_read_superblock(
     which: u64,
     id: u64,
     whole: bool,
-) -> u8
-    ensures { result ≡ ask_ack_read_superblock slots reads which id whole }
+) -> Result<(), Refusal>
+    ensures { result ≡ asked (ask_ack_read_superblock slots reads which id whole) }
 {
-    let q = ask_waiting(reads, which, id);
-    if q != 0 {
-        return q;
-    }
+    ask_waiting(reads, which, id)?;
     let slot = slots.at(which);
-    let b = may_read(whole, slot);
-    if b {
-        return 0;
+    if may_read(whole, slot) {
+        return Ok(());
     }
-    6
+    Err(Refusal::Condition)
 }
 
 // Is this what a read of the slot brings: damaged, or whole with the very superblock that it holds?
-fn holds_read(slot: MaybeSuperblock, read: SuperblockRead) -> bool
+fn holds_read(slot: Option<Superblock>, read: Option<Superblock>) -> bool
     ensures { result ≡ holds_read slot read }
 {
-    let SuperblockRead::Whole(s) = read else {
+    let Some(s) = read else {
         return true;
     };
-    let MaybeSuperblock::Holds(t) = slot else {
+    let Some(t) = slot else {
         return false;
     };
     t.same(s)
@@ -89,20 +77,16 @@ pub fn ask_read_superblock_as(
     reads: SuperblockReads,
     which: u64,
     id: u64,
-    read: SuperblockRead,
-) -> u8
-    ensures { result ≡ ask_read_superblock_as slots reads which id read }
+    read: Option<Superblock>,
+) -> Result<(), Refusal>
+    ensures { result ≡ asked (ask_read_superblock_as slots reads which id read) }
 {
-    let q = ask_waiting(reads, which, id);
-    if q != 0 {
-        return q;
-    }
+    ask_waiting(reads, which, id)?;
     let slot = slots.at(which);
-    let b = holds_read(slot, read);
-    if b {
-        return 0;
+    if holds_read(slot, read) {
+        return Ok(());
     }
-    6
+    Err(Refusal::Condition)
 }
 
 pub fn read_acked(reads: SuperblockReads, which: u64, id: u64) -> SuperblockReads
@@ -118,26 +102,27 @@ pub fn read_acked(reads: SuperblockReads, which: u64, id: u64) -> SuperblockRead
 pub fn held_interval(table: IntervalTable, id: u64) -> JournalInterval
     ensures { result ≡ held_interval table id }
 {
-    let held = table.get(id);
-    let Held::Is(v) = held else {
-        return JournalInterval { start: 0, len: 0 };
-    };
-    v
+    let empty = JournalInterval { start: 0, len: 0 };
+    table.get(id).unwrap_or(empty)
 }
 
 // Questions 5 and 6 of a journal read's answer.
-pub fn ask_ack_read_journal(table: IntervalTable, id: u64, whole: bool, marks: &[u8]) -> u8
-    ensures { result ≡ ask_ack_read_journal table id whole marks.now }
+pub fn ask_ack_read_journal(
+    table: IntervalTable,
+    id: u64,
+    whole: bool,
+    marks: &[u8],
+) -> Result<(), Refusal>
+    ensures { result ≡ asked (ask_ack_read_journal table id whole marks.now) }
 {
-    let there = table.has(id);
-    if there {
-        if whole {
-            let v = held_interval(table, id);
-            return journal::ask_readable(v, marks);
-        }
-        return 0;
+    if !table.has(id) {
+        return Err(Refusal::Id);
     }
-    5
+    if whole {
+        let v = held_interval(table, id);
+        return journal::ask_readable(v, marks);
+    }
+    Ok(())
 }
 
 pub fn interval_left(table: IntervalTable, id: u64) -> IntervalTable
@@ -148,50 +133,45 @@ pub fn interval_left(table: IntervalTable, id: u64) -> IntervalTable
 }
 
 // Does the slot hold exactly what the write writes?
-fn landed(slot: MaybeSuperblock, write: SuperblockWrite) -> bool
+fn landed(slot: Option<Superblock>, write: Option<SuperblockWrite>) -> bool
     ensures { result ≡ landed slot write }
 {
-    let SuperblockWrite::Writing {
-        id: _,
-        superblock: s,
-    } = write
-    else {
+    let Some(awaited) = write else {
         return false;
     };
-    let MaybeSuperblock::Holds(held) = slot else {
+    let Some(held) = slot else {
         return false;
     };
-    held.same(s)
+    held.same(awaited.superblock)
 }
 
 // Questions 4, 5 and 6 of a superblock write's answer.
-pub fn ask_ack_write_superblock(slots: Slots, writes: SuperblockWrites, which: u64, id: u64) -> u8
-    ensures { result ≡ ask_ack_write_superblock slots writes which id }
+pub fn ask_ack_write_superblock(
+    slots: Slots,
+    writes: SuperblockWrites,
+    which: u64,
+    id: u64,
+) -> Result<(), Refusal>
+    ensures { result ≡ asked (ask_ack_write_superblock slots writes which id) }
 {
-    let q = ask_which(which);
-    if q != 0 {
-        return q;
-    }
+    ask_which(which)?;
     let write = writes.at(which);
-    let a = is_write(write, id);
-    if a {
-        let slot = slots.at(which);
-        let b = landed(slot, write);
-        if b {
-            return 0;
-        }
-        return 6;
+    if !is_write(write, id) {
+        return Err(Refusal::Id);
     }
-    5
+    let slot = slots.at(which);
+    if landed(slot, write) {
+        return Ok(());
+    }
+    Err(Refusal::Condition)
 }
 
 // Question 5 of a journal write's answer.
-pub fn ask_ack_write_journal(table: IntervalTable, id: u64) -> u8
-    ensures { result ≡ ask_ack_write_journal table id }
+pub fn ask_ack_write_journal(table: IntervalTable, id: u64) -> Result<(), Refusal>
+    ensures { result ≡ asked (ask_ack_write_journal table id) }
 {
-    let there = table.has(id);
-    if there {
-        return 0;
+    if table.has(id) {
+        return Ok(());
     }
-    5
+    Err(Refusal::Id)
 }

@@ -1,50 +1,39 @@
 // A superblock write lands: its slot holds it (001's ProcessWriteSuperblock). The write stays in flight, and may land again.
 ghost use Rattle.std.specs.Prelude.{◌≡◌};
+ghost use Rattle.refusal.specs.Refusal.{asked};
 ghost use Rattle.requests.specs.Landing.{in_flight, landing_on, ask_land, slots_landed};
 
 use super::by_slot::ask_which;
 use super::{Slots, SuperblockWrite, SuperblockWrites};
-use superblock::MaybeSuperblock;
+use refusal::Refusal;
+use superblock::Superblock;
 
-fn in_flight(write: SuperblockWrite) -> bool
+fn in_flight(write: Option<SuperblockWrite>) -> bool
     ensures { result ≡ in_flight write }
 {
-    match write {
-        SuperblockWrite::Writing {
-            id: _,
-            superblock: _,
-        } => true,
-        SuperblockWrite::NoWrite => false,
-    }
+    write.is_some()
 }
 
 // What the slot holds after the landing.
-fn landing_on(slot: MaybeSuperblock, write: SuperblockWrite) -> MaybeSuperblock
+fn landing_on(slot: Option<Superblock>, write: Option<SuperblockWrite>) -> Option<Superblock>
     ensures { result ≡ landing_on slot write }
 {
     match write {
-        SuperblockWrite::Writing {
-            id: _,
-            superblock: s,
-        } => MaybeSuperblock::Holds(s),
-        SuperblockWrite::NoWrite => slot,
+        Some(landed) => Some(landed.superblock),
+        None => slot,
     }
 }
 
 // Questions 4 and 6 of a landing.
-pub fn ask_land(writes: SuperblockWrites, which: u64) -> u8
-    ensures { result ≡ ask_land writes which }
+pub fn ask_land(writes: SuperblockWrites, which: u64) -> Result<(), Refusal>
+    ensures { result ≡ asked (ask_land writes which) }
 {
-    let q = ask_which(which);
-    if q != 0 {
-        return q;
-    }
+    ask_which(which)?;
     let write = writes.at(which);
-    let b = in_flight(write);
-    if b {
-        return 0;
+    if in_flight(write) {
+        return Ok(());
     }
-    6
+    Err(Refusal::Condition)
 }
 
 pub fn slots_landed(slots: Slots, writes: SuperblockWrites, which: u64) -> Slots

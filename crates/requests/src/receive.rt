@@ -1,37 +1,34 @@
 // What the disk does with a request that it receives (001's RecvRead and RecvWrite), after questions 1 and 2. Each function decides by value
 // and asks the other questions; none is a step by itself.
 ghost use Rattle.std.specs.Prelude.{◌≡◌};
+ghost use Rattle.refusal.specs.Refusal.{asked};
 ghost use Rattle.requests.specs.Receive.{ask_recv_read_superblock, read_received, ask_recv_read_journal, ask_recv_write_superblock, rows_for, is_new, ask_new_ids, second_fits, ask_rows, ask_recv_write_journal, added_part, write_received};
 
 use super::by_slot::{ask_which, is_write};
 use super::limits::{MOST_JOURNAL_READS, MOST_JOURNAL_WRITES, MOST_SUPERBLOCK_READS};
 use super::{SuperblockReads, SuperblockWrites};
-use interval::{JournalInterval, MaybeInterval};
+use interval::JournalInterval;
 use layout::Geometry;
-use superblock::MaybeId;
+use refusal::Refusal;
 use tables::IntervalTable;
 
 // Questions 4, 5 and 8 of a superblock read.
-pub fn ask_recv_read_superblock(reads: SuperblockReads, which: u64, id: u64) -> u8
-    ensures { result ≡ ask_recv_read_superblock reads which id }
+pub fn ask_recv_read_superblock(reads: SuperblockReads, which: u64, id: u64) -> Result<(), Refusal>
+    ensures { result ≡ asked (ask_recv_read_superblock reads which id) }
 {
-    let q = ask_which(which);
-    if q != 0 {
-        return q;
-    }
+    ask_which(which)?;
     let first = reads.first;
     let second = reads.second;
     let a = first.has(id);
     let b = second.has(id);
     if a | b {
-        return 5;
+        return Err(Refusal::Id);
     }
     let table = reads.at(which);
-    let free = table.room(1, MOST_SUPERBLOCK_READS);
-    if free {
-        return 0;
+    if table.room(1, MOST_SUPERBLOCK_READS) {
+        return Ok(());
     }
-    8
+    Err(Refusal::Room)
 }
 
 pub fn read_received(reads: SuperblockReads, which: u64, id: u64) -> SuperblockReads
@@ -43,55 +40,59 @@ pub fn read_received(reads: SuperblockReads, which: u64, id: u64) -> SuperblockR
 }
 
 // Questions 4, 5 and 8 of a journal read.
-pub fn ask_recv_read_journal(g: Geometry, table: IntervalTable, id: u64, v: JournalInterval) -> u8
-    ensures { result ≡ ask_recv_read_journal g table id v }
+pub fn ask_recv_read_journal(
+    g: Geometry,
+    table: IntervalTable,
+    id: u64,
+    v: JournalInterval,
+) -> Result<(), Refusal>
+    ensures { result ≡ asked (ask_recv_read_journal g table id v) }
 {
-    let b = v.contiguous(g);
-    if b {
-        return table.ask_add(id, MOST_JOURNAL_READS);
+    if !v.contiguous(g) {
+        return Err(Refusal::Argument);
     }
-    4
+    table.ask_add(id, MOST_JOURNAL_READS)
 }
 
 // Questions 4 and 5 of a superblock write.
-pub fn ask_recv_write_superblock(writes: SuperblockWrites, which: u64, id: u64) -> u8
-    ensures { result ≡ ask_recv_write_superblock writes which id }
+pub fn ask_recv_write_superblock(
+    writes: SuperblockWrites,
+    which: u64,
+    id: u64,
+) -> Result<(), Refusal>
+    ensures { result ≡ asked (ask_recv_write_superblock writes which id) }
 {
-    let q = ask_which(which);
-    if q != 0 {
-        return q;
-    }
+    ask_which(which)?;
     let first = writes.first;
     let second = writes.second;
     let a = is_write(first, id);
     let b = is_write(second, id);
     if a | b {
-        return 5;
+        return Err(Refusal::Id);
     }
-    0
+    Ok(())
 }
 
 // Is a second id, if one is given, new to the table?
-fn is_new(table: IntervalTable, id: MaybeId) -> bool
+fn is_new(table: IntervalTable, id: Option<u64>) -> bool
     ensures { result ≡ is_new table id }
 {
-    let MaybeId::Id(i) = id else {
-        return true;
-    };
-    let there = table.has(i);
-    !there
+    match id {
+        Some(other) => !table.has(other),
+        None => true,
+    }
 }
 
 // Question 5 of a journal write.
-fn ask_new_ids(table: IntervalTable, id1: u64, id2: MaybeId) -> u8
-    ensures { result ≡ ask_new_ids table id1 id2 }
+fn ask_new_ids(table: IntervalTable, id1: u64, id2: Option<u64>) -> Result<(), Refusal>
+    ensures { result ≡ asked (ask_new_ids table id1 id2) }
 {
     let there = table.has(id1);
     let new = is_new(table, id2);
     if !there & new {
-        return 0;
+        return Ok(());
     }
-    5
+    Err(Refusal::Id)
 }
 
 // How many rows a write takes: one where it runs straight, two where it passes the ring's end.
@@ -105,30 +106,26 @@ fn rows_for(straight: bool) -> usize
 }
 
 // Is a second id given exactly where the write passes the end, and unlike the first?
-fn second_fits(straight: bool, id1: u64, id2: MaybeId) -> bool
+fn second_fits(straight: bool, id1: u64, id2: Option<u64>) -> bool
     ensures { result ≡ second_fits straight id1 id2 }
 {
-    let MaybeId::Id(id) = id2 else {
-        return straight;
-    };
-    let other = id != id1;
-    !straight & other
+    match id2 {
+        Some(id) => !straight && id != id1,
+        None => straight,
+    }
 }
 
 // Questions 8 and 9 of a journal write.
-fn ask_rows(table: IntervalTable, straight: bool, id1: u64, id2: MaybeId) -> u8
-    ensures { result ≡ ask_rows table straight id1 id2 }
+fn ask_rows(table: IntervalTable, straight: bool, id1: u64, id2: Option<u64>) -> Result<(), Refusal>
+    ensures { result ≡ asked (ask_rows table straight id1 id2) }
 {
-    let rows = rows_for(straight);
-    let free = table.room(rows, MOST_JOURNAL_WRITES);
-    if free {
-        let fits = second_fits(straight, id1, id2);
-        if fits {
-            return 0;
-        }
-        return 9;
+    if !table.room(rows_for(straight), MOST_JOURNAL_WRITES) {
+        return Err(Refusal::Room);
     }
-    8
+    if second_fits(straight, id1, id2) {
+        return Ok(());
+    }
+    Err(Refusal::SecondId)
 }
 
 // Questions 4, 5, 8 and 9 of a journal write.
@@ -136,30 +133,26 @@ pub fn ask_recv_write_journal(
     g: Geometry,
     table: IntervalTable,
     id1: u64,
-    id2: MaybeId,
+    id2: Option<u64>,
     v: JournalInterval,
-) -> u8
-    ensures { result ≡ ask_recv_write_journal g table id1 id2 v }
+) -> Result<(), Refusal>
+    ensures { result ≡ asked (ask_recv_write_journal g table id1 id2 v) }
 {
-    let b = v.valid(g);
-    if b {
-        let q = ask_new_ids(table, id1, id2);
-        if q != 0 {
-            return q;
-        }
-        let straight = v.contiguous(g);
-        return ask_rows(table, straight, id1, id2);
+    if !v.valid(g) {
+        return Err(Refusal::Argument);
     }
-    4
+    ask_new_ids(table, id1, id2)?;
+    let straight = v.contiguous(g);
+    ask_rows(table, straight, id1, id2)
 }
 
-fn added_part(table: IntervalTable, id: u64, part: MaybeInterval) -> IntervalTable
+fn added_part(table: IntervalTable, id: u64, part: Option<JournalInterval>) -> IntervalTable
     ensures { result ≡ added_part table id part }
 {
-    let MaybeInterval::Is(v) = part else {
-        return table;
-    };
-    table.add(id, v)
+    match part {
+        Some(v) => table.add(id, v),
+        None => table,
+    }
 }
 
 // The table with the write's rows: one, or its front and its back.
@@ -167,12 +160,12 @@ pub fn write_received(
     g: Geometry,
     table: IntervalTable,
     id1: u64,
-    id2: MaybeId,
+    id2: Option<u64>,
     v: JournalInterval,
 ) -> IntervalTable
     ensures { result ≡ write_received g table id1 id2 v }
 {
-    let MaybeId::Id(id) = id2 else {
+    let Some(id) = id2 else {
         return table.add(id1, v);
     };
     let front = v.front(g);

@@ -5,25 +5,22 @@ ghost use Rattle.laws.specs.Around.{splice_around};
 ghost use Rattle.runs.specs.Low.{low_bytes};
 
 use super::lengths::narrow;
-use super::number::{lesser, room};
-use super::run::{fill, write_bytes};
+use super::run::{fill, write};
 
-pub fn write_bytes_around(src: &[u8], dst: &mut [u8], at: usize)
+pub fn write_around<T: Copy>(src: &[T], dst: &mut [T], at: usize)
     ensures { dst.new ≡ splice_around dst.old at (take (length dst.old) src.now) }
 {
-    let left = room(dst.len(), at);
-    let first = lesser(left, src.len());
-    let end = lesser(dst.len(), src.len());
-    write_bytes(src, dst, at);
-    write_bytes(&src[first..end], dst, 0);
+    let first = src.len().min(dst.len().saturating_sub(at));
+    let end = src.len().min(dst.len());
+    write(src, dst, at);
+    write(&src[first..end], dst, 0);
 }
 
 pub fn narrow_around(src: &[u16], dst: &mut [u8], at: usize)
     ensures { dst.new ≡ splice_around dst.old at (take (length dst.old) (low_bytes src.now)) }
 {
-    let left = room(dst.len(), at);
-    let first = lesser(left, src.len());
-    let end = lesser(dst.len(), src.len());
+    let first = src.len().min(dst.len().saturating_sub(at));
+    let end = src.len().min(dst.len());
     narrow(src, dst, at);
     narrow(&src[first..end], dst, 0);
 }
@@ -31,9 +28,8 @@ pub fn narrow_around(src: &[u16], dst: &mut [u8], at: usize)
 pub fn fill_around(value: u8, count: usize, dst: &mut [u8], at: usize)
     ensures { dst.new ≡ splice_around dst.old at (take (length dst.old) (replicate count value)) }
 {
-    let left = room(dst.len(), at);
-    let first = lesser(left, count);
-    let end = lesser(dst.len(), count);
+    let first = count.min(dst.len().saturating_sub(at));
+    let end = count.min(dst.len());
     fill(value, count, dst, at);
     fill(value, end - first, dst, 0);
 }

@@ -1,14 +1,15 @@
 -- Laws of sectors: a sector that was written reads back as its numbers, and no second sector of as many fields reads as the same numbers.
 -- Over how many numbers there are, up to the 30 whose contents end before the bodies begin. Assumes nothing.
-use Rattle.std.specs.Prelude.{◌≡◌, ℕ, suc, ◌+◌, ◌-◌, ◌*◌, ◌^◌, ◌<◌, ◌≤◌, true, List, ◌∷◌, ◌++◌, length, take, drop, replicate, refl}
-use Rattle.std.proofs.Common.{sym, ◌∙◌, arith, length-append, take-append-drop, take_at, drop_at, drop-drop, eq-eqb, eqb-true}
+use Rattle.std.specs.Prelude.{◌≡◌, ℕ, suc, ◌+◌, ◌-◌, ◌*◌, ◌%◌, ◌^◌, ◌<◌, ◌≤◌, true, List, [], ◌∷◌, ◌++◌, length, take, drop, replicate, refl}
+use Rattle.std.proofs.Common.{sym, ◌∙◌, zero-add, arith, length-append, take-append-drop, take_at, drop_at, drop-drop, eq-eqb, eqb-true}
 use Rattle.std.proofs.Math.Path.{ap}
 use mathlib.Core.List.{append_assoc}
 use Rattle.std.proofs.lemmas.List.{length-replicate}
 use Rattle.std.proofs.Math.ListN.{length-drop}
+use Rattle.std.specs.List.{fold}
 use Rattle.laws.specs.Choice.{also_left, also_right, also_both, and_then_left, and_then_right, and_then_both, ask_yes, ask_holds}
 use Rattle.laws.specs.Digits.{is_digit}
-use Rattle.laws.specs.Fold.{every, every_take, every_drop, every_replicate, same_is, is_same}
+use Rattle.laws.specs.Fold.{sum, every, every_take, every_drop, every_replicate, same_is, is_same}
 use Rattle.laws.specs.Bytes.{is_byte, Bytes, is_zero, zeros_are}
 use Rattle.laws.specs.LowFirst.{from_low, low_first, each_low, each_from_low, length_low_first, from_low_low_first, low_first_from_low, length_each_low, length_each_from_low, each_from_low_each_low, each_low_each_from_low}
 use Rattle.laws.specs.Part.{tab, length_tab, length_part, part_then}
@@ -192,3 +193,13 @@ one_sector n xs ys few b c p q e =
     sym (sector_of_numbers_in n xs few b (sector_asked n xs p))
     ∙ ap sector_of e
     ∙ sector_of_numbers_in n ys few c (sector_asked n ys q)
+
+-- the check number, summed with the carry dropped each time
+sum_fold : (a : ℕ) (ns : List ℕ) → a < 2 ^ 64 → fold (λ (s n : ℕ). (s + n) % 2 ^ 64) a ns ≡ (a + sum ns) % 2 ^ 64
+unfolding sum
+sum_fold a [] h = omega arith
+sum_fold a (n ∷ ns) h = sum_fold ((a + n) % 2 ^ 64) ns (omega arith) ∙ omega arith
+
+pub check_fold : (ns : List ℕ) → fold (λ (s n : ℕ). (s + n) % 2 ^ 64) 0 ns ≡ check_number ns
+unfolding check_number
+check_fold ns = sum_fold 0 ns (omega arith) ∙ ap (λ (k : ℕ). k % 2 ^ 64) (zero-add (sum ns))

@@ -1,9 +1,8 @@
 -- Which of two sectors a store would load from, and why: by the source's selection where both are read, and none where one is refused.
-use Rattle.std.specs.Prelude.{◌≡◌, ℕ, Bool, true, false, cond, ◌==◌, refl}
+use Rattle.std.specs.Prelude.{◌≡◌, ℕ, Bool, true, false, cond, ◌==◌, refl, Result, Ok, Err}
+use Rattle.refusal.specs.declared.Refusal.{Refusal}
 use Rattle.superblock.specs.declared.Superblock.{Superblock}
 use Rattle.superblock.specs.Superblock.{increments1, select_superblock_index}
-use Rattle.sector.specs.declared.SectorRead.{SectorRead}
-use Rattle.sector.specs.declared.SectorRead.TheVariants as read
 use Rattle.sector.specs.declared.Selection.{Selection}
 use Rattle.sector.specs.declared.Selection.TheVariants as selects
 
@@ -14,14 +13,11 @@ by_counters first second =
     (cond (increments1 second first) selects.FirstFollows
     selects.NeitherFollows))
 
-unfoldable pub first_refused : SectorRead → Selection
-first_refused (read.Holds t) = selects.FirstRefused
-first_refused (read.Refused q) = selects.BothRefused
-
-unfoldable pub selection : SectorRead → SectorRead → Selection
-selection (read.Holds s) (read.Holds t) = by_counters s.counter t.counter
-selection (read.Holds s) (read.Refused q) = selects.SecondRefused
-selection (read.Refused p) second = first_refused second
+unfoldable pub selection : Result Superblock Refusal → Result Superblock Refusal → Selection
+selection (Ok s) (Ok t) = by_counters s.counter t.counter
+selection (Ok s) (Err q) = selects.SecondRefused
+selection (Err p) (Ok t) = selects.FirstRefused
+selection (Err p) (Err q) = selects.BothRefused
 
 -- the slot that two superblocks' selection names is the loader's: 0 the first, 1 the second
 unfoldable pub slot_of : Selection → ℕ
@@ -33,7 +29,7 @@ slot_of selects.FirstRefused = 0
 slot_of selects.SecondRefused = 0
 slot_of selects.BothRefused = 0
 
-pub selects_loaded : (s t : Superblock) → slot_of (selection (read.Holds s) (read.Holds t)) ≡ select_superblock_index s t
+pub selects_loaded : (s t : Superblock) → slot_of (selection (Ok s) (Ok t)) ≡ select_superblock_index s t
 unfolding selection by_counters slot_of select_superblock_index
 selects_loaded s t = go (increments1 s.counter t.counter) (s.counter == t.counter) (increments1 t.counter s.counter)
   where

@@ -5,11 +5,5 @@ ghost use Rattle.sector.specs.Sector.{check_number};
 pub fn check_number(numbers: &[u64]) -> u64
     ensures { result ≡ check_number numbers.now }
 {
-    let mut sum = 0;
-    let mut i = 0;
-    while i < numbers.len() {
-        sum = std::num::wrapping_add_u64(sum, numbers[i]);
-        i += 1;
-    }
-    sum
+    numbers.iter().fold(0, |sum: u64, n| sum.wrapping_add(*n))
 }

@@ -1,20 +1,19 @@
 // The reader: the questions, and then the superblock.
 ghost use Rattle.std.specs.Prelude.{◌≡◌, slice_index};
+ghost use Rattle.refusal.specs.Refusal.{asked};
 ghost use Rattle.sector.specs.Answer.{read_sector};
 ghost use Rattle.sector.specs.Sector.{ask_sector, superblock_of};
 
 use super::fields::ask_fields;
-use super::{CONTENTS, NUMBER_COUNT, SECTOR_SIZE, SectorRead};
+use super::{CONTENTS, NUMBER_COUNT, SECTOR_SIZE};
 use layout::Location;
+use refusal::Refusal;
 use superblock::Superblock;
 
 fn number_or_zero(numbers: &[u64], i: usize) -> u64
     ensures { result ≡ slice_index numbers.now i }
 {
-    if i < numbers.len() {
-        return numbers[i];
-    }
-    0
+    numbers.get(i).copied().unwrap_or(0)
 }
 
 // The superblock that numbers make, in a sector's order; one that isn't there counts as 0.
@@ -37,28 +36,22 @@ pub fn superblock_of(numbers: &[u64]) -> Superblock
 }
 
 // The length is asked first: what follows then lies at places that the compiler knows.
-pub fn read_sector(sector: &[u8]) -> SectorRead
+pub fn read_sector(sector: &[u8]) -> Result<Superblock, Refusal>
     ensures { result ≡ read_sector sector.now }
 {
     if sector.len() != SECTOR_SIZE {
-        return SectorRead::Refused(10);
+        return Err(Refusal::Contents);
     }
     let mut numbers = [0; NUMBER_COUNT];
-    let q = ask_fields(&CONTENTS, &mut numbers, sector);
-    if q != 0 {
-        return SectorRead::Refused(q);
-    }
+    ask_fields(&CONTENTS, &mut numbers, sector)?;
     let s = superblock_of(&numbers);
-    SectorRead::Holds(s)
+    Ok(s)
 }
 
 // The questions alone.
-pub fn ask_sector(sector: &[u8]) -> u8
-    ensures { result ≡ ask_sector sector.now }
+pub fn ask_sector(sector: &[u8]) -> Result<(), Refusal>
+    ensures { result ≡ asked (ask_sector sector.now) }
 {
-    let r = read_sector(sector);
-    match r {
-        SectorRead::Holds(_) => 0,
-        SectorRead::Refused(q) => q,
-    }
+    read_sector(sector)?;
+    Ok(())
 }

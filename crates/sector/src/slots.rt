@@ -1,9 +1,10 @@
 // Which of two sectors a store would load from, and why.
 ghost use Rattle.std.specs.Prelude.{◌≡◌};
-ghost use Rattle.sector.specs.Selection.{by_counters, first_refused, selection};
+ghost use Rattle.sector.specs.Selection.{by_counters, selection};
 
-use super::{SectorRead, Selection};
-use superblock::increments1;
+use super::Selection;
+use refusal::Refusal;
+use superblock::{Superblock, increments1};
 
 fn by_counters(first: u64, second: u64) -> Selection
     ensures { result ≡ by_counters first second }
@@ -20,23 +21,13 @@ fn by_counters(first: u64, second: u64) -> Selection
     Selection::NeitherFollows
 }
 
-fn first_refused(second: SectorRead) -> Selection
-    ensures { result ≡ first_refused second }
-{
-    let SectorRead::Holds(t) = second else {
-        return Selection::BothRefused;
-    };
-    Selection::FirstRefused
-}
-
-pub fn select(first: SectorRead, second: SectorRead) -> Selection
+pub fn select(first: Result<Superblock, Refusal>, second: Result<Superblock, Refusal>) -> Selection
     ensures { result ≡ selection first second }
 {
-    let SectorRead::Holds(s) = first else {
-        return first_refused(second);
-    };
-    let SectorRead::Holds(t) = second else {
-        return Selection::SecondRefused;
-    };
-    by_counters(s.counter, t.counter)
+    match (first, second) {
+        (Ok(s), Ok(t)) => by_counters(s.counter, t.counter),
+        (Ok(_), Err(_)) => Selection::SecondRefused,
+        (Err(_), Ok(_)) => Selection::FirstRefused,
+        (Err(_), Err(_)) => Selection::BothRefused,
+    }
 }

@@ -1,5 +1,6 @@
 // The three rows: what each slot says, and which is selected.
-use sector::{SectorRead, Selection, select};
+use refusal::Refusal;
+use sector::{Selection, select};
 use superblock::Superblock;
 use text::{put, put_decimal};
 
@@ -18,15 +19,15 @@ fn put_superblock(s: Superblock, text: &mut [u8], at: usize) -> usize {
     put_number(loc.len, text, e)
 }
 
-fn put_read(r: SectorRead, text: &mut [u8], at: usize) -> usize {
+fn put_read(r: Result<Superblock, Refusal>, text: &mut [u8], at: usize) -> usize {
     match r {
-        SectorRead::Holds(s) => put_superblock(s, text, at),
-        SectorRead::Refused(q) => put_number(q as u64, text, at),
+        Ok(s) => put_superblock(s, text, at),
+        Err(no) => put_number(no.number() as u64, text, at),
     }
 }
 
 // `slot 1 0 7 6 5 40960 4096`, or `slot 1 12`.
-fn put_slot(slot: u64, r: SectorRead, text: &mut [u8], at: usize) -> usize {
+fn put_slot(slot: u64, r: Result<Superblock, Refusal>, text: &mut [u8], at: usize) -> usize {
     let a = put(b"slot", text, at);
     let b = put_number(slot, text, a);
     let c = put_read(r, text, b);
@@ -49,7 +50,11 @@ fn put_selection(s: Selection, text: &mut [u8], at: usize) -> usize {
     }
 }
 
-pub(crate) fn put_rows(first: SectorRead, second: SectorRead, text: &mut [u8]) -> usize {
+pub(crate) fn put_rows(
+    first: Result<Superblock, Refusal>,
+    second: Result<Superblock, Refusal>,
+    text: &mut [u8],
+) -> usize {
     let a = put_slot(1, first, text, 0);
     let b = put_slot(2, second, text, a);
     let s = select(first, second);

@@ -5,7 +5,7 @@
 //   then ask_again, land, crash, crash_in_place
 // Each asks questions 1 and 2 once, of all that it is handed, then the machine's, then the disk's; lent memory is altered after the last yes. A
 // refusal hands the store back and alters no lent byte. A slice that is lent shared is one that the step never alters. Every function is total.
-#![tactic(auto)]
+#![tactic(auto, using(refusal::specs::Refusal::questions, refusal::specs::Refusal::unless_no, refusal::specs::Refusal::unless_yes), unfolding(laws::specs::Choice::and_then, laws::specs::Choice::unless, store::specs::Whole::asked, store::specs::Whole::ask_crash))]
 
 mod load_steps;
 mod outside_steps;

@@ -23,9 +23,8 @@ pub fn page_in_journal_req(
 ) -> StoreStepped
     ensures { result ≡ page_in_journal_req g (lent bytes.now lens.now pieces.now rbytes.now rlens.now blocks.now marks.now) s which id }
 {
-    let q = s.ask_state(g, bytes, lens, pieces, rbytes, rlens, blocks, marks);
-    if q != 0 {
-        return s.refused(q);
+    if let Err(no) = s.ask_state(g, bytes, lens, pieces, rbytes, rlens, blocks, marks) {
+        return s.refused(no);
     }
     s.page_in_journal_req_asked(g, which, id)
 }
@@ -47,9 +46,8 @@ pub fn page_in_journal_resp(
     ensures value { result ≡ page_in_journal_resp g (lent bytes.now lens.now pieces.old rbytes.now rlens.now blocks.now marks.now) s id whole }
     ensures pieces_after { pieces.new ≡ (page_in_journal_resp_lent g (lent bytes.now lens.now pieces.old rbytes.now rlens.now blocks.now marks.now) s id whole).pieces }
 {
-    let q = s.ask_state(g, bytes, lens, pieces, rbytes, rlens, blocks, marks);
-    if q != 0 {
-        return s.refused(q);
+    if let Err(no) = s.ask_state(g, bytes, lens, pieces, rbytes, rlens, blocks, marks) {
+        return s.refused(no);
     }
     s.page_in_journal_resp_asked(g, id, whole, pieces, blocks, marks)
 }
@@ -70,9 +68,8 @@ pub fn page_in_superblock_req(
 ) -> StoreStepped
     ensures { result ≡ page_in_superblock_req g (lent bytes.now lens.now pieces.now rbytes.now rlens.now blocks.now marks.now) s which id }
 {
-    let q = s.ask_state(g, bytes, lens, pieces, rbytes, rlens, blocks, marks);
-    if q != 0 {
-        return s.refused(q);
+    if let Err(no) = s.ask_state(g, bytes, lens, pieces, rbytes, rlens, blocks, marks) {
+        return s.refused(no);
     }
     s.page_in_superblock_req_asked(g, which, id)
 }
@@ -94,9 +91,8 @@ pub fn page_in_superblock_resp(
 ) -> StoreStepped
     ensures { result ≡ page_in_superblock_resp g (lent bytes.now lens.now pieces.now rbytes.now rlens.now blocks.now marks.now) s which id whole }
 {
-    let q = s.ask_state(g, bytes, lens, pieces, rbytes, rlens, blocks, marks);
-    if q != 0 {
-        return s.refused(q);
+    if let Err(no) = s.ask_state(g, bytes, lens, pieces, rbytes, rlens, blocks, marks) {
+        return s.refused(no);
     }
     s.page_in_superblock_resp_asked(g, which, id, whole)
 }
@@ -115,9 +111,8 @@ pub fn finish_loading_superblock_phase(
 ) -> StoreStepped
     ensures { result ≡ finish_loading_superblock_phase g (lent bytes.now lens.now pieces.now rbytes.now rlens.now blocks.now marks.now) s }
 {
-    let q = s.ask_state(g, bytes, lens, pieces, rbytes, rlens, blocks, marks);
-    if q != 0 {
-        return s.refused(q);
+    if let Err(no) = s.ask_state(g, bytes, lens, pieces, rbytes, rlens, blocks, marks) {
+        return s.refused(no);
     }
     s.finish_loading_superblock_phase_asked(g)
 }
@@ -138,9 +133,8 @@ pub fn finish_loading_other_phase(
     ensures rbytes_after { rbytes.new ≡ (finish_loading_other_phase_lent g (lent bytes.now lens.now pieces.now rbytes.old rlens.old blocks.now marks.now) s).rbytes }
     ensures rlens_after { rlens.new ≡ (finish_loading_other_phase_lent g (lent bytes.now lens.now pieces.now rbytes.old rlens.old blocks.now marks.now) s).rlens }
 {
-    let q = s.ask_state(g, bytes, lens, pieces, rbytes, rlens, blocks, marks);
-    if q != 0 {
-        return s.refused(q);
+    if let Err(no) = s.ask_state(g, bytes, lens, pieces, rbytes, rlens, blocks, marks) {
+        return s.refused(no);
     }
     s.finish_loading_other_phase_asked(g, pieces, rbytes, rlens)
 }
@@ -160,9 +154,8 @@ pub fn ask_again(
 ) -> StoreStepped
     ensures { result ≡ ask_again g (lent bytes.now lens.now pieces.now rbytes.now rlens.now blocks.now marks.now) s which }
 {
-    let q = s.ask_state(g, bytes, lens, pieces, rbytes, rlens, blocks, marks);
-    if q != 0 {
-        return s.refused(q);
+    if let Err(no) = s.ask_state(g, bytes, lens, pieces, rbytes, rlens, blocks, marks) {
+        return s.refused(no);
     }
     s.ask_again_asked(g, which)
 }

@@ -1,9 +1,11 @@
 // What befalls a store from outside, whole: landings and crashes. Questions 1 and 2 come first; a refusal hands the store back and alters no lent byte.
 ghost use Rattle.std.specs.Prelude.{◌≡◌};
+ghost use Rattle.refusal.specs.Refusal.{asked};
 ghost use Rattle.store.specs.Lent.{lent};
 ghost use Rattle.store.specs.Whole.{land, ask_crash, crash, crash_lent, crash_in_place};
 
 use layout::Geometry;
+use refusal::Refusal;
 use store::{Store, StoreStepped};
 
 // A landing of slot 1 (`which` 0) or of slot 2.
@@ -21,9 +23,8 @@ pub fn land(
 ) -> StoreStepped
     ensures { result ≡ land g (lent bytes.now lens.now pieces.now rbytes.now rlens.now blocks.now marks.now) s which }
 {
-    let q = s.ask_state(g, bytes, lens, pieces, rbytes, rlens, blocks, marks);
-    if q != 0 {
-        return s.refused(q);
+    if let Err(no) = s.ask_state(g, bytes, lens, pieces, rbytes, rlens, blocks, marks) {
+        return s.refused(no);
     }
     s.land_asked(which)
 }
@@ -41,13 +42,10 @@ fn ask_crash(
     rlens: &[u16],
     blocks: &[u8],
     marks: &[u8],
-) -> u8
-    ensures { result ≡ ask_crash g (lent bytes.now lens.now pieces.now rbytes.now rlens.now blocks.now marks.now) s picture.now pictured.now }
+) -> Result<(), Refusal>
+    ensures { result ≡ asked (ask_crash g (lent bytes.now lens.now pieces.now rbytes.now rlens.now blocks.now marks.now) s picture.now pictured.now) }
 {
-    let q = journal::ask_journal(g, picture, pictured);
-    if q != 0 {
-        return q;
-    }
+    journal::ask_journal(g, picture, pictured)?;
     s.ask_state(g, bytes, lens, pieces, rbytes, rlens, blocks, marks)
 }
 
@@ -69,11 +67,10 @@ pub fn crash(
     ensures blocks_after { blocks.new ≡ (crash_lent g (lent bytes.now lens.now pieces.now rbytes.now rlens.now blocks.old marks.old) s picture.now pictured.now).blocks }
     ensures marks_after { marks.new ≡ (crash_lent g (lent bytes.now lens.now pieces.now rbytes.now rlens.now blocks.old marks.old) s picture.now pictured.now).marks }
 {
-    let q = ask_crash(
+    if let Err(no) = ask_crash(
         s, g, picture, pictured, bytes, lens, pieces, rbytes, rlens, blocks, marks,
-    );
-    if q != 0 {
-        return s.refused(q);
+    ) {
+        return s.refused(no);
     }
     s.crash_asked(picture, pictured, blocks, marks)
 }
@@ -92,9 +89,8 @@ pub fn crash_in_place(
 ) -> StoreStepped
     ensures { result ≡ crash_in_place g (lent bytes.now lens.now pieces.now rbytes.now rlens.now blocks.now marks.now) s }
 {
-    let q = s.ask_state(g, bytes, lens, pieces, rbytes, rlens, blocks, marks);
-    if q != 0 {
-        return s.refused(q);
+    if let Err(no) = s.ask_state(g, bytes, lens, pieces, rbytes, rlens, blocks, marks) {
+        return s.refused(no);
     }
     s.crash_in_place_asked()
 }

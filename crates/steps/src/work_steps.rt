@@ -5,16 +5,14 @@ ghost use Rattle.store.specs.Lent.{lent};
 ghost use Rattle.store.specs.Whole.{write_back_journal_req, write_back_journal_req_lent, write_back_journal_resp, advance_log, advance_location, write_back_superblock_resp, freeze, receive_frozen_loc, advance, advance_lent, replay, push_sync_req, pop_sync_req, no_op};
 
 use layout::{Geometry, Location};
-use machine::Asked;
 use store::{Store, StoreStepped};
-use superblock::MaybeId;
 
 // WriteBackJournalReq: the range goes from pending memory into the ring, and what is left of pending memory moves to its front.
 pub fn write_back_journal_req(
     s: Store,
     g: Geometry,
     id1: u64,
-    id2: MaybeId,
+    id2: Option<u64>,
     bytes: &mut [u8],
     lens: &mut [u16],
     pieces: &[u8],
@@ -29,10 +27,9 @@ pub fn write_back_journal_req(
     ensures blocks_after { blocks.new ≡ (write_back_journal_req_lent g (lent bytes.old lens.old pieces.now rbytes.now rlens.now blocks.old marks.old) s id1 id2).blocks }
     ensures marks_after { marks.new ≡ (write_back_journal_req_lent g (lent bytes.old lens.old pieces.now rbytes.now rlens.now blocks.old marks.old) s id1 id2).marks }
 {
-    let a = s.ask(g, bytes, lens, pieces, rbytes, rlens, blocks, marks);
-    match a {
-        Asked::Refused(q) => s.refused(q),
-        Asked::Held(bodies) => s.write_back_journal_req_asked(
+    match s.ask(g, bytes, lens, pieces, rbytes, rlens, blocks, marks) {
+        Err(no) => s.refused(no),
+        Ok(bodies) => s.write_back_journal_req_asked(
             g, id1, id2, bodies, bytes, lens, blocks, marks,
         ),
     }
@@ -53,9 +50,8 @@ pub fn write_back_journal_resp(
 ) -> StoreStepped
     ensures { result ≡ write_back_journal_resp g (lent bytes.now lens.now pieces.now rbytes.now rlens.now blocks.now marks.now) s id }
 {
-    let q = s.ask_state(g, bytes, lens, pieces, rbytes, rlens, blocks, marks);
-    if q != 0 {
-        return s.refused(q);
+    if let Err(no) = s.ask_state(g, bytes, lens, pieces, rbytes, rlens, blocks, marks) {
+        return s.refused(no);
     }
     s.write_back_journal_resp_asked(g, id)
 }
@@ -75,9 +71,8 @@ pub fn write_back_superblock_req_advance_log(
 ) -> StoreStepped
     ensures { result ≡ advance_log g (lent bytes.now lens.now pieces.now rbytes.now rlens.now blocks.now marks.now) s id }
 {
-    let q = s.ask_state(g, bytes, lens, pieces, rbytes, rlens, blocks, marks);
-    if q != 0 {
-        return s.refused(q);
+    if let Err(no) = s.ask_state(g, bytes, lens, pieces, rbytes, rlens, blocks, marks) {
+        return s.refused(no);
     }
     s.write_back_superblock_req_advance_log_asked(g, id)
 }
@@ -97,9 +92,8 @@ pub fn write_back_superblock_req_advance_location(
 ) -> StoreStepped
     ensures { result ≡ advance_location g (lent bytes.now lens.now pieces.now rbytes.now rlens.now blocks.now marks.now) s id }
 {
-    let q = s.ask_state(g, bytes, lens, pieces, rbytes, rlens, blocks, marks);
-    if q != 0 {
-        return s.refused(q);
+    if let Err(no) = s.ask_state(g, bytes, lens, pieces, rbytes, rlens, blocks, marks) {
+        return s.refused(no);
     }
     s.write_back_superblock_req_advance_location_asked(g, id)
 }
@@ -119,9 +113,8 @@ pub fn write_back_superblock_resp(
 ) -> StoreStepped
     ensures { result ≡ write_back_superblock_resp g (lent bytes.now lens.now pieces.now rbytes.now rlens.now blocks.now marks.now) s id }
 {
-    let q = s.ask_state(g, bytes, lens, pieces, rbytes, rlens, blocks, marks);
-    if q != 0 {
-        return s.refused(q);
+    if let Err(no) = s.ask_state(g, bytes, lens, pieces, rbytes, rlens, blocks, marks) {
+        return s.refused(no);
     }
     s.write_back_superblock_resp_asked(g, id)
 }
@@ -140,9 +133,8 @@ pub fn freeze(
 ) -> StoreStepped
     ensures { result ≡ freeze g (lent bytes.now lens.now pieces.now rbytes.now rlens.now blocks.now marks.now) s }
 {
-    let q = s.ask_state(g, bytes, lens, pieces, rbytes, rlens, blocks, marks);
-    if q != 0 {
-        return s.refused(q);
+    if let Err(no) = s.ask_state(g, bytes, lens, pieces, rbytes, rlens, blocks, marks) {
+        return s.refused(no);
     }
     s.freeze_asked(g)
 }
@@ -162,9 +154,8 @@ pub fn receive_frozen_loc(
 ) -> StoreStepped
     ensures { result ≡ receive_frozen_loc g (lent bytes.now lens.now pieces.now rbytes.now rlens.now blocks.now marks.now) s loc }
 {
-    let q = s.ask_state(g, bytes, lens, pieces, rbytes, rlens, blocks, marks);
-    if q != 0 {
-        return s.refused(q);
+    if let Err(no) = s.ask_state(g, bytes, lens, pieces, rbytes, rlens, blocks, marks) {
+        return s.refused(no);
     }
     s.receive_frozen_loc_asked(g, loc)
 }
@@ -188,10 +179,9 @@ pub fn advance(
     ensures bytes_after { bytes.new ≡ (advance_lent g (lent bytes.old lens.old pieces.now rbytes.now rlens.now blocks.now marks.now) s brought.now sizes.now k).bytes }
     ensures lens_after { lens.new ≡ (advance_lent g (lent bytes.old lens.old pieces.now rbytes.now rlens.now blocks.now marks.now) s brought.now sizes.now k).lens }
 {
-    let a = s.ask(g, bytes, lens, pieces, rbytes, rlens, blocks, marks);
-    match a {
-        Asked::Refused(q) => s.refused(q),
-        Asked::Held(bodies) => s.advance_asked(g, bodies, brought, sizes, k, bytes, lens),
+    match s.ask(g, bytes, lens, pieces, rbytes, rlens, blocks, marks) {
+        Err(no) => s.refused(no),
+        Ok(bodies) => s.advance_asked(g, bodies, brought, sizes, k, bytes, lens),
     }
 }
 
@@ -212,9 +202,8 @@ pub fn replay(
 ) -> StoreStepped
     ensures { result ≡ replay g (lent bytes.now lens.now pieces.now rbytes.now rlens.now blocks.now marks.now) s brought.now sizes.now k }
 {
-    let q = s.ask_state(g, bytes, lens, pieces, rbytes, rlens, blocks, marks);
-    if q != 0 {
-        return s.refused(q);
+    if let Err(no) = s.ask_state(g, bytes, lens, pieces, rbytes, rlens, blocks, marks) {
+        return s.refused(no);
     }
     s.replay_asked(g, rbytes, rlens, brought, sizes, k)
 }
@@ -234,9 +223,8 @@ pub fn push_sync_req(
 ) -> StoreStepped
     ensures { result ≡ push_sync_req g (lent bytes.now lens.now pieces.now rbytes.now rlens.now blocks.now marks.now) s id }
 {
-    let q = s.ask_state(g, bytes, lens, pieces, rbytes, rlens, blocks, marks);
-    if q != 0 {
-        return s.refused(q);
+    if let Err(no) = s.ask_state(g, bytes, lens, pieces, rbytes, rlens, blocks, marks) {
+        return s.refused(no);
     }
     s.push_sync_req_asked(g, id)
 }
@@ -256,9 +244,8 @@ pub fn pop_sync_req(
 ) -> StoreStepped
     ensures { result ≡ pop_sync_req g (lent bytes.now lens.now pieces.now rbytes.now rlens.now blocks.now marks.now) s id }
 {
-    let q = s.ask_state(g, bytes, lens, pieces, rbytes, rlens, blocks, marks);
-    if q != 0 {
-        return s.refused(q);
+    if let Err(no) = s.ask_state(g, bytes, lens, pieces, rbytes, rlens, blocks, marks) {
+        return s.refused(no);
     }
     s.pop_sync_req_asked(g, id)
 }
@@ -277,9 +264,8 @@ pub fn no_op(
 ) -> StoreStepped
     ensures { result ≡ no_op g (lent bytes.now lens.now pieces.now rbytes.now rlens.now blocks.now marks.now) s }
 {
-    let q = s.ask_state(g, bytes, lens, pieces, rbytes, rlens, blocks, marks);
-    if q != 0 {
-        return s.refused(q);
+    if let Err(no) = s.ask_state(g, bytes, lens, pieces, rbytes, rlens, blocks, marks) {
+        return s.refused(no);
     }
     s.no_op_asked(g)
 }

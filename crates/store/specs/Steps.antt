@@ -1,13 +1,14 @@
 -- The store's steps after questions 1 and 2: the machine is asked all its questions, then the disk; then the next store, and the lent memory
 -- after it. In the order of 000's Step; then ask again, landings and crashes.
-use Rattle.std.specs.Prelude.{ℕ, Bool, cond, List}
+use Rattle.superblock.specs.declared.Superblock.{Superblock}
+use Rattle.std.specs.declared.option.Option as code
+use Rattle.std.specs.Prelude.{ℕ, Bool, cond, List, Result, Ok, Err}
+use Rattle.refusal.specs.declared.Refusal.{Refusal}
 use Rattle.laws.specs.Choice.{and_then, unless}
 use Rattle.layout.specs.declared.Geometry.{Geometry}
 use Rattle.layout.specs.declared.Location.{Location}
 use Rattle.interval.specs.declared.JournalInterval.{JournalInterval}
 use Rattle.interval.specs.Interval.{interval}
-use Rattle.superblock.specs.declared.MaybeId.{MaybeId}
-use Rattle.superblock.specs.declared.SuperblockRead.{SuperblockRead}
 use Rattle.superblock.specs.declared.JournalRead.{JournalRead}
 use Rattle.superblock.specs.declared.JournalRead.TheVariants as read
 use Rattle.superblock.specs.declared.DiskOp.{DiskOp}
@@ -18,16 +19,12 @@ use Rattle.loading.specs.declared.Paged.{Paged}
 use Rattle.ready.specs.declared.Bodies.{Bodies}
 use Rattle.ready.specs.JournalSteps.{sent_blocks}
 use Rattle.machine.specs.declared.Machine.{Machine}
-use Rattle.machine.specs.declared.MachineAnswer.{MachineAnswer}
-use Rattle.machine.specs.declared.MachineAnswer.TheVariants as machine
 use Rattle.machine.specs.declared.MachineStepped.{MachineStepped}
 use Rattle.machine.specs.Machine.{initial_machine}
 use Rattle.machine.specs.Loading.{ask_page_in_journal_req_step, page_in_journal_req_op, page_in_journal_req_machine, paged_in, page_in_journal_resp_op, page_in_journal_resp_machine, ask_page_in_superblock_req_step, page_in_superblock_req_op, page_in_superblock_req_machine, ask_page_in_superblock_resp_step, page_in_superblock_resp_op, page_in_superblock_resp_machine, ask_finish_loading_superblock_phase_step, finish_loading_superblock_phase_machine, ask_loaded, finish_loading_other_phase_machine, loaded_replay_bytes, loaded_replay_lens, ask_ask_again_step, ask_again_machine}
 use Rattle.machine.specs.Working.{sent_start, ask_write_back_journal_req_step, write_back_journal_req_op, write_back_journal_req_machine, sent_range, moved_bytes, moved_lens, write_back_journal_resp_op, write_back_journal_resp_machine, ask_advance_log_step, advance_log_op, advance_log_machine, ask_advance_location_step, advance_location_op, advance_location_machine, ask_write_back_superblock_resp_step, write_back_superblock_resp_op, write_back_superblock_resp_machine, ask_freeze_step, freeze_machine, ask_receive_frozen_loc_step, receive_frozen_loc_machine, ask_advance_step, advance_machine, appended_bytes, appended_lens, given_of, ask_replay_step, replay_machine}
 use Rattle.machine.specs.Sync.{ask_push_sync_req, push_sync_req_machine, ask_pop_sync_req, pop_sync_req_machine}
 use Rattle.disk.specs.declared.Disk.{Disk}
-use Rattle.disk.specs.declared.DiskAnswer.{DiskAnswer}
-use Rattle.disk.specs.declared.DiskAnswer.TheVariants as disk
 use Rattle.requests.specs.Slots.{slot_at, slot_of}
 use Rattle.requests.specs.Acknowledge.{read_from, held_interval, ask_ack_read_journal}
 use Rattle.disk.specs.Next.{ack_read_journal_next}
@@ -49,30 +46,22 @@ unfoldable pub both : Geometry → Store → ℕ → DiskOp → Machine → Stor
 both g s q op next = answered (ask_both g s q op) op (store next (operation_next g s.disk op)) s
 
 -- the same from what the machine answered
-abbrev pub machine_refusal : MachineAnswer → ℕ
-machine_refusal (machine.Next op) = 0
-machine_refusal (machine.Refused q) = q
-
-abbrev pub disk_refusal : DiskAnswer → ℕ
-disk_refusal disk.Done = 0
-disk_refusal (disk.Refused q) = q
-
-abbrev pub answered_by : Geometry → Store → MachineAnswer → Machine → StoreStepped
-answered_by g s (machine.Next op) next = answered (ask_decision g s.disk op) op (store next (operation_next g s.disk op)) s
-answered_by g s (machine.Refused q) next = refused s q
+abbrev pub answered_by : Geometry → Store → Result DiskOp Refusal → Machine → StoreStepped
+answered_by g s (Ok op) next = answered (ask_decision g s.disk op) op (store next (operation_next g s.disk op)) s
+answered_by g s (Err e) next = refused s e
 
 unfoldable pub both_by : Geometry → Store → MachineStepped → StoreStepped
 both_by g s r = answered_by g s r.answer r.machine
 
 -- WriteBackJournalReq: the range goes from pending memory into the ring, its blocks' marks become 1, and what is left of pending memory
 -- moves to the front
-abbrev pub write_op : Geometry → Store → ℕ → MaybeId → Bodies → DiskOp
+abbrev pub write_op : Geometry → Store → ℕ → code.Option ℕ → Bodies → DiskOp
 write_op g s id1 id2 b = write_back_journal_req_op g s.machine id1 id2 b
 
-unfoldable pub ask_write_journal : Geometry → Store → ℕ → MaybeId → Bodies → ℕ
+unfoldable pub ask_write_journal : Geometry → Store → ℕ → code.Option ℕ → Bodies → ℕ
 ask_write_journal g s id1 id2 b = ask_both g s (ask_write_back_journal_req_step g s.machine id1 id2 b) (write_op g s id1 id2 b)
 
-abbrev pub write_journal : Geometry → Store → ℕ → MaybeId → Bodies → StoreStepped
+abbrev pub write_journal : Geometry → Store → ℕ → code.Option ℕ → Bodies → StoreStepped
 write_journal g s id1 id2 b = both g s (ask_write_back_journal_req_step g s.machine id1 id2 b) (write_op g s id1 id2 b) (write_back_journal_req_machine s.machine id1 id2 b)
 
 abbrev pub written_interval : Geometry → Store → Bodies → JournalInterval
@@ -158,7 +147,7 @@ read_superblock g s which id =
     both g s (ask_page_in_superblock_req_step s.machine which id) (page_in_superblock_req_op which id) (page_in_superblock_req_machine s.machine which id)
 
 -- PageInSuperblockResp: whole, with what the slot holds
-abbrev pub content_of : Store → ℕ → Bool → SuperblockRead
+abbrev pub content_of : Store → ℕ → Bool → code.Option Superblock
 content_of s which whole = read_from whole (slot_at s.disk.slots which)
 
 abbrev pub superblock_read : Geometry → Store → ℕ → ℕ → Bool → StoreStepped

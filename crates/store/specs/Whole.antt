@@ -1,10 +1,11 @@
 -- The store's steps whole, as their promises cite them, in the order of 000's Step; then ask again, landings and crashes: what each call answers,
 -- and the lent memory after it. Questions 1 and 2 come first, of all that a call is handed, then the step's own, the machine's before the disk's.
+use Rattle.std.specs.declared.option.Option as code
 use Rattle.std.specs.Prelude.{ℕ, Bool, cond, List, eqb}
 use Rattle.laws.specs.Choice.{and_then, unless}
+use Rattle.refusal.specs.Refusal.{refusal}
 use Rattle.layout.specs.declared.Geometry.{Geometry}
 use Rattle.layout.specs.declared.Location.{Location}
-use Rattle.superblock.specs.declared.MaybeId.{MaybeId}
 use Rattle.superblock.specs.declared.DiskOp.TheVariants as op
 use Rattle.journal.specs.Memory.{ask_journal}
 use Rattle.ready.specs.declared.Bodies.{Bodies}
@@ -17,19 +18,19 @@ use Rattle.store.specs.Store.{refused, accepted}
 use Rattle.store.specs.Lent.{Lent, ask_store}
 use Rattle.store.specs.Steps as one
 
--- q is what is asked first: 0 is what the step then answers, another is a refusal, with the store as it was
+-- q is what is asked first: 0 is what the step then answers, another is its refusal, with the store as it was
 unfoldable pub asked : ℕ → StoreStepped → Store → StoreStepped
-asked q r s = cond (eqb q 0) r (refused s q)
+asked q r s = cond (eqb q 0) r (refused s (refusal q))
 
 -- the bytes of the pending entries, as questions 1 and 2 find them
 abbrev pub bodies : Lent → Store → Bodies
 bodies l s = bodies_of l.lens s.machine
 
 -- WriteBackJournalReq
-abbrev pub write_back_journal_req : Geometry → Lent → Store → ℕ → MaybeId → StoreStepped
+abbrev pub write_back_journal_req : Geometry → Lent → Store → ℕ → code.Option ℕ → StoreStepped
 write_back_journal_req g l s id1 id2 = asked (ask_store g l s) (one.write_journal g s id1 id2 (bodies l s)) s
 
-abbrev pub write_back_journal_req_lent : Geometry → Lent → Store → ℕ → MaybeId → Lent
+abbrev pub write_back_journal_req_lent : Geometry → Lent → Store → ℕ → code.Option ℕ → Lent
 write_back_journal_req_lent g l s id1 id2 = unless (ask_store g l s) l (one.written_lent g l s (one.ask_write_journal g s id1 id2 (bodies l s)) (bodies l s))
 
 -- WriteBackJournalResp

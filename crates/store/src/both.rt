@@ -2,33 +2,16 @@
 ghost use Rattle.std.specs.Prelude.{◌≡◌};
 ghost use Rattle.machine.specs.Machine.{initial_machine};
 ghost use Rattle.disk.specs.Disk.{idle_disk};
-ghost use Rattle.store.specs.Store.{store, refused, accepted};
-ghost use Rattle.store.specs.Steps.{machine_refusal, disk_refusal, both_by};
+ghost use Rattle.store.specs.Store.{store, store_answered, refused, accepted};
+ghost use Rattle.store.specs.Steps.{both_by};
 
-use super::{Store, StoreAnswer, StoreStepped};
-use disk::{Disk, DiskAnswer};
+use super::{Store, StoreStepped};
+use disk::Disk;
 use layout::Geometry;
-use machine::{Machine, MachineAnswer, MachineStepped};
+use machine::{Machine, MachineStepped};
+use refusal::Refusal;
 use requests::Slots;
 use superblock::DiskOp;
-
-fn machine_refusal(a: MachineAnswer) -> u8
-    ensures { result ≡ machine_refusal a }
-{
-    match a {
-        MachineAnswer::Next(_) => 0,
-        MachineAnswer::Refused(q) => q,
-    }
-}
-
-fn disk_refusal(a: DiskAnswer) -> u8
-    ensures { result ≡ disk_refusal a }
-{
-    match a {
-        DiskAnswer::Done => 0,
-        DiskAnswer::Refused(q) => q,
-    }
-}
 
 impl Store {
     // The machine at Init beside a disk without requests.
@@ -41,11 +24,11 @@ impl Store {
     }
 
     // A no hands the store back.
-    pub fn refused(self, q: u8) -> StoreStepped
-        ensures { result ≡ refused self q }
+    pub fn refused(self, no: Refusal) -> StoreStepped
+        ensures { result ≡ refused self no }
     {
         StoreStepped {
-            answer: StoreAnswer::Refused(q),
+            answer: Err(no),
             store: self,
         }
     }
@@ -55,29 +38,36 @@ impl Store {
         ensures { result ≡ accepted op self }
     {
         StoreStepped {
-            answer: StoreAnswer::Next(op),
+            answer: Ok(op),
+            store: self,
+        }
+    }
+
+    // The store beside an answer.
+    fn answered(self, answer: Result<DiskOp, Refusal>) -> StoreStepped
+        ensures { result ≡ store_answered answer self }
+    {
+        StoreStepped {
+            answer: answer,
             store: self,
         }
     }
 
     // A step that the machine has answered goes to the disk; either's no leaves the store.
+    #[tactic(auto, unfolding(crate::specs::Steps::both_by, crate::specs::Store::answered, disk::specs::Disk::answered_with))]
     pub(crate) fn both(self, g: Geometry, stepped: MachineStepped) -> StoreStepped
         ensures { result ≡ both_by g self stepped }
     {
-        let a = stepped.answer;
-        let MachineAnswer::Next(op) = a else {
-            let q = machine_refusal(a);
-            return self.refused(q);
+        let Ok(op) = stepped.answer else {
+            return self.answered(stepped.answer);
         };
-        let d = self.disk;
-        let e = d.decide_asked(g, op);
-        let machine = stepped.machine;
-        let disk = e.disk;
-        let next = Store { machine, disk };
-        let b = e.answer;
-        let DiskAnswer::Done = b else {
-            let p = disk_refusal(b);
-            return self.refused(p);
+        let d = self.disk.decide_asked(g, op);
+        let next = Store {
+            machine: stepped.machine,
+            disk: d.disk,
+        };
+        let Ok(()) = d.answer else {
+            return self.answered(d.answer.and(stepped.answer));
         };
         next.accepted(op)
     }

@@ -2,11 +2,11 @@
 //   Store                              the state, by value; its memory is lent beside it
 //   Store::initial                     the machine at Init, and a disk without requests
 //   Store::ask, Store::ask_state       questions 1 and 2, of all that a call is handed; what was found in pending memory
-//   StoreStepped, StoreAnswer          what a step answers: the next store with its disk operation, or the number of a no and the store as it was
+//   StoreStepped                       what a step answers: the disk operation that was done, beside the next store, or a refusal, beside the store as it was
 //   the methods named `.._asked`       parts of steps, in the names and the order of 000's Step; no step by itself
 // A part is for a caller that has asked questions 1 and 2 itself, as crates steps (one call for each step) and calls (one call over an enum of
 // all) do. It asks the machine's other questions, then the disk's, and alters lent memory after the last yes. Every function is total.
-#![tactic(auto)]
+#![tactic(auto, using(refusal::specs::Refusal::questions, crate::specs::Laws::Answers::both_is, crate::specs::Laws::Answers::both_zero), unfolding(laws::specs::Choice::and_then, laws::specs::Choice::ask, crate::specs::Lent::ask_rest, crate::specs::Lent::ask_store))]
 
 mod both;
 mod plain;
@@ -15,6 +15,7 @@ mod with_memory;
 
 use disk::Disk;
 use machine::Machine;
+use refusal::Refusal;
 use superblock::DiskOp;
 
 // Machine and disk, by value. Their memory is lent beside it.
@@ -24,15 +25,9 @@ pub struct Store {
     pub disk: Disk,
 }
 
-// The disk operation that was done, or the number of the question that was answered no. The store beside it is the next one, or the one given.
-#[derive(Clone, Copy)]
-pub enum StoreAnswer {
-    Next(DiskOp),
-    Refused(u8),
-}
-
+// A step's answer, beside the store after it.
 #[derive(Clone, Copy)]
 pub struct StoreStepped {
-    pub answer: StoreAnswer,
+    pub answer: Result<DiskOp, Refusal>,
     pub store: Store,
 }

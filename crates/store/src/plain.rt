@@ -3,9 +3,8 @@ ghost use Rattle.std.specs.Prelude.{◌≡◌};
 ghost use Rattle.store.specs.Steps.{journal_written, commit_log, commit_location, superblock_written, read_journal, read_superblock, superblock_read, finish_superblocks, freeze, receive, push_sync, pop_sync, no_op, ask_again, land};
 
 use super::{Store, StoreStepped};
-use disk::DiskAnswer;
 use layout::{Geometry, Location};
-use machine::{MachineAnswer, MachineStepped};
+use machine::MachineStepped;
 use superblock::DiskOp;
 
 impl Store {
@@ -16,7 +15,7 @@ impl Store {
         let m = self.machine;
         let next = m.write_back_journal_resp_asked(id);
         let stepped = MachineStepped {
-            answer: MachineAnswer::Next(DiskOp::RespWriteJournal { id }),
+            answer: Ok(DiskOp::RespWriteJournal { id }),
             machine: next,
         };
         self.both(g, stepped)
@@ -142,7 +141,7 @@ impl Store {
     {
         let m = self.machine;
         let stepped = MachineStepped {
-            answer: MachineAnswer::Next(DiskOp::NoDiskOp),
+            answer: Ok(DiskOp::NoDiskOp),
             machine: m,
         };
         self.both(g, stepped)
@@ -158,18 +157,18 @@ impl Store {
     }
 
     // A landing: the machine sees nothing of it.
+    #[tactic(auto, unfolding(crate::specs::Store::answered, disk::specs::Disk::answered_with))]
     pub fn land_asked(self, which: u64) -> StoreStepped
         ensures { result ≡ land self which }
     {
-        let d = self.disk;
-        let e = d.land_asked(which);
-        let a = e.answer;
-        match a {
-            DiskAnswer::Refused(q) => self.refused(q),
-            DiskAnswer::Done => {
-                let machine = self.machine;
-                let disk = e.disk;
-                let next = Store { machine, disk };
+        let d = self.disk.land_asked(which);
+        match d.answer {
+            Err(no) => self.refused(no),
+            Ok(_) => {
+                let next = Store {
+                    machine: self.machine,
+                    disk: d.disk,
+                };
                 next.accepted(DiskOp::NoDiskOp)
             },
         }

@@ -12,16 +12,15 @@ ghost use Rattle.crash.specs.Picture.{crashed_blocks, crashed_marks};
 ghost use Rattle.store.specs.Store.{accepted};
 ghost use Rattle.store.specs.Steps.{interval_of, ask_write_journal, write_journal, written_blocks, written_marks, read_of, ask_journal_read, journal_read, read_pieces, finish_other, add, replay, crashed};
 
-use super::{Store, StoreAnswer, StoreStepped};
+use super::{Store, StoreStepped};
 use crash::{crash_memory, no_requests};
-use disk::JournalAnswer;
 use interval::JournalInterval;
 use journal::{copy_blocks, set_marks};
 use layout::Geometry;
 use machine::{Machine, send_range};
 use memory::Count;
 use ready::Bodies;
-use superblock::{DiskOp, JournalRead, MaybeId};
+use superblock::{DiskOp, JournalRead};
 
 // The interval of a journal write; none of any other operation.
 fn interval_of(op: DiskOp) -> JournalInterval
@@ -91,7 +90,7 @@ impl Store {
         self,
         g: Geometry,
         id1: u64,
-        id2: MaybeId,
+        id2: Option<u64>,
         bodies: Bodies,
         bytes: &mut [u8],
         lens: &mut [u16],
@@ -110,10 +109,9 @@ impl Store {
         let left = ready.left(bodies);
         let stepped = m.write_back_journal_req_asked(g, id1, id2, bodies);
         let r = self.both(g, stepped);
-        let a = r.answer;
-        match a {
-            StoreAnswer::Refused(_) => r,
-            StoreAnswer::Next(op) => {
+        match r.answer {
+            Err(_) => r,
+            Ok(op) => {
                 write_range(op, sent, left, bytes, lens, blocks, marks);
                 r
             },
@@ -121,6 +119,7 @@ impl Store {
     }
 
     // PageInJournalResp: whole, the disk's own blocks go to the place of the piece that awaits them.
+    #[tactic(auto, unfolding(laws::specs::Choice::unless, crate::specs::Store::answered, crate::specs::Steps::ask_journal_read, disk::specs::Disk::answered_with))]
     pub fn page_in_journal_resp_asked(
         self,
         g: Geometry,
@@ -137,10 +136,9 @@ impl Store {
         let m = self.machine;
         let d = self.disk;
         let e = d.ack_read_journal_asked(id, whole, marks);
-        let a = e.answer;
-        match a {
-            JournalAnswer::Refused(q) => self.refused(q),
-            JournalAnswer::Read(v) => {
+        match e.answer {
+            Err(no) => self.refused(no),
+            Ok(v) => {
                 let p = m.paged_in(g, id, read);
                 copy_blocks(blocks, v.start, p.len, pieces, p.place);
                 let machine = m.page_in_journal_resp_asked(id, read);

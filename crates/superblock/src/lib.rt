@@ -2,9 +2,9 @@
 //   Superblock          counter, the journal's start and len, the table's location; the same, well formed, front and back, the next counter
 //   selection           which of two superblocks is the newer
 //   DiskOp              what the machine asks of the disk and what the disk answers (source 001)
-//   MaybeSuperblock     what a slot holds; SuperblockRead and JournalRead: what a read came back with
+//   JournalRead         what a read of journal blocks came back with
 // Every function is total. `same`, `well_formed`, `front` and `back` ask nothing, and hold for any geometry; the others ask questions 1 and 4.
-#![tactic(auto)]
+#![tactic(auto, using(refusal::specs::Refusal::questions, laws::specs::Choice::tests), unfolding(laws::specs::Choice::also, crate::specs::Superblock::increment_superblock_counter, crate::specs::Superblock::increments1, crate::specs::Superblock::select_superblock_index, crate::specs::Superblock::select_superblock, crate::specs::Superblock::wf_superblock, crate::specs::Superblock::same_superblock))]
 
 mod superblocks;
 
@@ -15,33 +15,12 @@ pub use superblocks::{
 };
 
 // What a commit writes, and what loading reads. Any numbers make one; the loader asks whether it is well formed.
-#[derive(Clone, Copy)]
+#[derive(Clone, Copy, PartialEq, Eq)]
 pub struct Superblock {
     pub counter: u64,
     pub journalStart: u64,
     pub journalLen: u64,
     pub indirectionTableLoc: Location,
-}
-
-// An id, or none.
-#[derive(Clone, Copy)]
-pub enum MaybeId {
-    Id(u64),
-    NoId,
-}
-
-// What a slot of the disk holds: a superblock, or nothing.
-#[derive(Clone, Copy)]
-pub enum MaybeSuperblock {
-    Holds(Superblock),
-    Empty,
-}
-
-// What a read of a slot came back with: whole, with the superblock that the slot holds; or damaged, whatever it holds.
-#[derive(Clone, Copy)]
-pub enum SuperblockRead {
-    Whole(Superblock),
-    Damaged,
 }
 
 // What a read of journal blocks came back with: whole, and the blocks of its interval lie in lent memory; or damaged, and none do.
@@ -71,14 +50,14 @@ pub enum DiskOp {
     // A range of `blocks` blocks, to be written from block `start` on, going round. Its bytes lie in lent memory.
     ReqWriteJournal {
         id1: u64,
-        id2: MaybeId,
+        id2: Option<u64>,
         start: u64,
         blocks: u64,
     },
     RespReadSuperblock {
         id: u64,
         which: u64,
-        superblock: SuperblockRead,
+        superblock: Option<Superblock>,
     },
     RespReadJournal {
         id: u64,

@@ -1,14 +1,15 @@
 // Superblocks: the next counter, the newer of two, which are well formed, and the pieces in which the journal is read.
 ghost use Rattle.std.specs.Prelude.{◌≡◌};
-ghost use Rattle.layout.specs.Answer.{decided};
+ghost use Rattle.refusal.specs.Refusal.{ok_unless};
+ghost use Rattle.laws.specs.Optional.{optional};
 ghost use Rattle.layout.specs.Geometry.{ask_geometry};
-ghost use Rattle.interval.specs.Answer.{maybe_interval, maybe_spanned};
 ghost use Rattle.interval.specs.Interval.{ask_interval, interval};
 ghost use Rattle.superblock.specs.Superblock.{increment_superblock_counter, increments1, select_superblock_index, select_superblock, journal_front_interval_of_superblock, journal_back_interval_of_superblock, wf_superblock, same_superblock};
 
 use super::Superblock;
-use interval::{JournalInterval, MaybeInterval, MaybeSpanned};
-use layout::{Decision, Geometry};
+use interval::JournalInterval;
+use layout::Geometry;
+use refusal::Refusal;
 
 // The counter after `counter`: after the largest comes 0.
 pub fn increment_superblock_counter(counter: u64) -> u64
@@ -50,18 +51,12 @@ impl Superblock {
     pub fn same(self, other: Superblock) -> bool
         ensures { result ≡ same_superblock self other }
     {
-        let loc = self.indirectionTableLoc;
-        let next = other.indirectionTableLoc;
-        let a = self.counter == other.counter;
-        let b = self.journalStart == other.journalStart;
-        let c = self.journalLen == other.journalLen;
-        let d = loc.same(next);
-        a & (b & (c & d))
+        self == other
     }
 
     // The two pieces in which loading reads the journal.
-    pub fn front(self, g: Geometry) -> MaybeInterval
-        ensures { result ≡ maybe_interval (journal_front_interval_of_superblock g self) }
+    pub fn front(self, g: Geometry) -> Option<JournalInterval>
+        ensures { result ≡ optional (journal_front_interval_of_superblock g self) }
     {
         let v = JournalInterval {
             start: self.journalStart,
@@ -70,8 +65,8 @@ impl Superblock {
         v.front(g)
     }
 
-    pub fn back(self, g: Geometry) -> MaybeInterval
-        ensures { result ≡ maybe_interval (journal_back_interval_of_superblock g self) }
+    pub fn back(self, g: Geometry) -> Option<JournalInterval>
+        ensures { result ≡ optional (journal_back_interval_of_superblock g self) }
     {
         let v = JournalInterval {
             start: self.journalStart,
@@ -81,8 +76,8 @@ impl Superblock {
     }
 
     // The same, after questions 1 and 4.
-    pub fn journal_front_interval(self, g: Geometry) -> MaybeSpanned
-        ensures { result ≡ maybe_spanned (ask_interval g (interval self.journalStart self.journalLen)) (journal_front_interval_of_superblock g self) }
+    pub fn journal_front_interval(self, g: Geometry) -> Result<Option<JournalInterval>, Refusal>
+        ensures { result ≡ ok_unless (ask_interval g (interval self.journalStart self.journalLen)) (optional (journal_front_interval_of_superblock g self)) }
     {
         let v = JournalInterval {
             start: self.journalStart,
@@ -91,8 +86,8 @@ impl Superblock {
         v.journal_front_interval(g)
     }
 
-    pub fn journal_back_interval(self, g: Geometry) -> MaybeSpanned
-        ensures { result ≡ maybe_spanned (ask_interval g (interval self.journalStart self.journalLen)) (journal_back_interval_of_superblock g self) }
+    pub fn journal_back_interval(self, g: Geometry) -> Result<Option<JournalInterval>, Refusal>
+        ensures { result ≡ ok_unless (ask_interval g (interval self.journalStart self.journalLen)) (optional (journal_back_interval_of_superblock g self)) }
     {
         let v = JournalInterval {
             start: self.journalStart,
@@ -116,14 +111,11 @@ impl Superblock {
     }
 
     // `well_formed`, after question 1.
-    pub fn wf_superblock(self, g: Geometry) -> Decision
-        ensures { result ≡ decided (ask_geometry g) (wf_superblock g self) }
+    pub fn wf_superblock(self, g: Geometry) -> Result<bool, Refusal>
+        ensures { result ≡ ok_unless (ask_geometry g) (wf_superblock g self) }
     {
-        let q = g.ask();
-        if q != 0 {
-            return Decision::Refused(q);
-        }
+        g.ask()?;
         let b = self.well_formed(g);
-        Decision::Is(b)
+        Ok(b)
     }
 }

@@ -1,14 +1,11 @@
 -- A table of ids with an interval each (`map<ReqId, JournalInterval>`), and the map that it stands for.
 use Rattle.std.specs.Prelude.{ℕ, Bool, ◌≡◌, length, take, replicate}
-use Rattle.std.proofs.Math.Option.{Option, none, some}
 use Rattle.laws.specs.Fold.{every}
 use Rattle.laws.specs.Sets.{Map}
 use Rattle.layout.specs.declared.Geometry.{Geometry}
 use Rattle.interval.specs.declared.JournalInterval.{JournalInterval}
 use Rattle.interval.specs.Interval.{interval, contiguous_journal_interval}
 use Rattle.tables.specs.declared.IntervalTable.{IntervalTable}
-use Rattle.tables.specs.declared.Held.{Held}
-use Rattle.tables.specs.declared.Held.TheVariants as held
 use Rattle.tables.specs.Rows.{Rows, row_map, added_row, removed_row}
 
 -- the table as rows and back
@@ -33,11 +30,6 @@ pub record SizedIntervals (t : IntervalTable) : Type 0 where
 -- every interval in use is valid and contiguous
 unfoldable pub valid_intervals : Geometry → IntervalTable → Bool
 valid_intervals g t = every (contiguous_journal_interval g) (take t.count t.intervals)
-
--- the answer for an id
-abbrev pub held_of : Option JournalInterval → Held
-held_of none = held.Nothing
-held_of (some v) = held.Is v
 
 -- one more at the end, and the last one in the place of another
 unfoldable pub added_interval : IntervalTable → ℕ → JournalInterval → IntervalTable

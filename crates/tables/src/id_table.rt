@@ -1,12 +1,12 @@
 // A table of ids.
 ghost use Rattle.std.specs.Prelude.{◌≡◌, take};
+ghost use Rattle.refusal.specs.Refusal.{asked};
 ghost use Rattle.tables.specs.Rows.{place_of, counted, has_room, ask_add, ask_join};
 ghost use Rattle.tables.specs.IdTable.{id_set, no_ids, added_id, joined_id, removed_id};
 
 use super::IdTable;
-use super::ids::{ask_add, ask_join, has, ok, place, room};
-
-const SIZE: usize = 16;
+use super::ids::InUse;
+use refusal::Refusal;
 
 impl IdTable {
     pub fn empty() -> IdTable
@@ -18,51 +18,54 @@ impl IdTable {
         }
     }
 
+    pub(crate) fn in_use(&self) -> InUse<'_>
+        ensures { (result.ids.now ≡ self.now.ids) × (result.count ≡ self.now.count) }
+    {
+        InUse {
+            ids: &self.ids,
+            count: self.count,
+        }
+    }
+
     // Is the count within the limit and the array, and do the ids in use differ?
     pub fn ok(self, most: usize) -> bool
         ensures { result ≡ counted most self.count self.ids }
     {
-        let ids = self.ids;
-        ok(&ids, self.count, most)
+        self.in_use().ok(most)
     }
 
     pub fn has(self, id: u64) -> bool
         ensures { result ≡ id_set self id }
     {
-        let ids = self.ids;
-        has(&ids, self.count, id)
+        self.in_use().has(id)
     }
 
     // The place of an id; where it isn't there, the number of places in use.
     pub fn place(self, id: u64) -> usize
         ensures { result ≡ place_of id (take self.count self.ids) }
     {
-        let ids = self.ids;
-        place(&ids, self.count, id)
+        self.in_use().place(id)
     }
 
     // Is there room for so many more?
     pub fn room(self, more: usize, most: usize) -> bool
         ensures { result ≡ has_room most self.count more self.ids }
     {
-        let ids = self.ids;
-        room(&ids, self.count, more, most)
+        self.in_use().room(more, most)
     }
 
     // Questions 5 and 8: may a new id be added?
-    pub fn ask_add(self, id: u64, most: usize) -> u8
-        ensures { result ≡ ask_add most self.count self.ids id }
+    pub fn ask_add(self, id: u64, most: usize) -> Result<(), Refusal>
+        ensures { result ≡ asked (ask_add most self.count self.ids id) }
     {
-        let ids = self.ids;
-        ask_add(&ids, self.count, id, most)
+        self.in_use().ask_add(id, most)
     }
 
     // Question 8: may an id join, as in a set?
-    pub fn ask_join(self, id: u64, most: usize) -> u8
-        ensures { result ≡ ask_join most self.count self.ids id }
+    pub fn ask_join(self, id: u64, most: usize) -> Result<(), Refusal>
+        ensures { result ≡ asked (ask_join most self.count self.ids id) }
     {
-        let ids = self.ids;
-        ask_join(&ids, self.count, id, most)
+        self.in_use().ask_join(id, most)
     }
 
     // One more at the end; a full table stays as it is.
@@ -70,7 +73,7 @@ impl IdTable {
         ensures { result ≡ added_id self id }
     {
         let n = self.count;
-        if n < SIZE {
+        if n < self.ids.len() {
             self.ids[n] = id;
             self.count = n + 1;
             return self;
@@ -94,7 +97,7 @@ impl IdTable {
         ensures { result ≡ removed_id self i }
     {
         let n = self.count;
-        if n <= SIZE {
+        if n <= self.ids.len() {
             if i < n {
                 let last = n - 1;
                 self.ids[i] = self.ids[last];

@@ -1,14 +1,16 @@
 // A table of ids with an interval each.
 ghost use Rattle.std.specs.Prelude.{◌≡◌, take};
+ghost use Rattle.refusal.specs.Refusal.{asked};
+ghost use Rattle.laws.specs.Optional.{optional};
 ghost use Rattle.laws.specs.Sets.{ids_of};
 ghost use Rattle.tables.specs.Rows.{place_of, counted, has_room, ask_add, same_ids};
-ghost use Rattle.tables.specs.IntervalTable.{interval_map, no_intervals, valid_intervals, held_of, added_interval, removed_interval};
+ghost use Rattle.tables.specs.IntervalTable.{interval_map, no_intervals, valid_intervals, added_interval, removed_interval};
 
-use super::ids::{ask_add, has, ok, place, room, same_sets};
-use super::{Held, IdTable, IntervalTable};
+use super::ids::InUse;
+use super::{IdTable, IntervalTable};
 use interval::JournalInterval;
 use layout::Geometry;
-use runs::lesser;
+use refusal::Refusal;
 
 const SIZE: usize = 16;
 
@@ -25,75 +27,68 @@ impl IntervalTable {
         }
     }
 
+    fn in_use(&self) -> InUse<'_>
+        ensures { (result.ids.now ≡ self.now.ids) × (result.count ≡ self.now.count) }
+    {
+        InUse {
+            ids: &self.ids,
+            count: self.count,
+        }
+    }
+
     // Is the count within the limit and the array, and do the ids in use differ?
     pub fn ok(self, most: usize) -> bool
         ensures { result ≡ counted most self.count self.ids }
     {
-        let ids = self.ids;
-        ok(&ids, self.count, most)
+        self.in_use().ok(most)
     }
 
     // Is every interval in use valid and contiguous?
     pub fn valid(self, g: Geometry) -> bool
         ensures { result ≡ valid_intervals g self }
     {
-        let vs = self.intervals;
-        let n = lesser(self.count, SIZE);
-        let mut i = 0;
-        while i < n {
-            let v = vs[i];
-            let ok = v.contiguous(g);
-            if ok {
-                i += 1;
-            } else {
-                return false;
-            }
-        }
-        true
+        let n = self.count.min(SIZE);
+        self.intervals[..n].iter().all(|v| v.contiguous(g))
     }
 
     pub fn has(self, id: u64) -> bool
         ensures { result ≡ ids_of (take self.count self.ids) id }
     {
-        let ids = self.ids;
-        has(&ids, self.count, id)
+        self.in_use().has(id)
     }
 
     // The place of an id; where it isn't there, the number of places in use.
     pub fn place(self, id: u64) -> usize
         ensures { result ≡ place_of id (take self.count self.ids) }
     {
-        let ids = self.ids;
-        place(&ids, self.count, id)
+        self.in_use().place(id)
     }
 
     // The interval of an id.
-    pub fn get(self, id: u64) -> Held
-        ensures { result ≡ held_of (interval_map self id) }
+    pub fn get(self, id: u64) -> Option<JournalInterval>
+        ensures { result ≡ optional (interval_map self id) }
     {
         let i = self.place(id);
-        let n = lesser(self.count, SIZE);
+        let n = self.count.min(SIZE);
         if i < n {
             let v = self.intervals[i];
-            return Held::Is(v);
+            return Some(v);
         }
-        Held::Nothing
+        None
     }
 
     // Is there room for so many more?
     pub fn room(self, more: usize, most: usize) -> bool
         ensures { result ≡ has_room most self.count more self.ids }
     {
-        let ids = self.ids;
-        room(&ids, self.count, more, most)
+        self.in_use().room(more, most)
     }
 
     // Questions 5 and 8: may a new id be added?
-    pub fn ask_add(self, id: u64, most: usize) -> u8
-        ensures { result ≡ ask_add most self.count self.ids id }
+    pub fn ask_add(self, id: u64, most: usize) -> Result<(), Refusal>
+        ensures { result ≡ asked (ask_add most self.count self.ids id) }
     {
-        let ids = self.ids;
-        ask_add(&ids, self.count, id, most)
+        self.in_use().ask_add(id, most)
     }
 
     // One more at the end; a full table stays as it is.
@@ -101,7 +96,7 @@ impl IntervalTable {
         ensures { result ≡ added_interval self id v }
     {
         let n = self.count;
-        if n < SIZE {
+        if n < self.ids.len() {
             self.ids[n] = id;
             self.intervals[n] = v;
             self.count = n + 1;
@@ -115,7 +110,7 @@ impl IntervalTable {
         ensures { result ≡ removed_interval self i }
     {
         let n = self.count;
-        if n <= SIZE {
+        if n <= self.ids.len() {
             if i < n {
                 let last = n - 1;
                 let v = self.intervals[last];
@@ -133,7 +128,5 @@ impl IntervalTable {
 pub fn same_ids(a: IdTable, b: IntervalTable) -> bool
     ensures { result ≡ same_ids (take a.count a.ids) (take b.count b.ids) }
 {
-    let xs = a.ids;
-    let ys = b.ids;
-    same_sets(&xs, a.count, &ys, b.count)
+    a.in_use().same(b.in_use())
 }

@@ -1,13 +1,13 @@
 // The table of sync requests. Nothing outside this file looks into it: find, add, remove and move states are all that is done to it.
 ghost use Rattle.std.specs.Prelude.{◌≡◌, take};
-ghost use Rattle.laws.specs.Fold.{every};
+ghost use Rattle.refusal.specs.Refusal.{asked};
 ghost use Rattle.laws.specs.Sets.{ids_of};
 ghost use Rattle.tables.specs.Rows.{place_of, counted, ask_add};
-ghost use Rattle.tables.specs.SyncTable.{state_map, no_syncs, ok_state, valid_states, or_zero, added_sync, removed_sync, moved, moved_syncs};
+ghost use Rattle.tables.specs.SyncTable.{state_map, no_syncs, valid_states, or_zero, added_sync, removed_sync, moved, moved_syncs};
 
 use super::SyncTable;
-use super::ids::{ask_add, has, ok, place};
-use runs::lesser;
+use super::ids::InUse;
+use refusal::Refusal;
 
 const SIZE: usize = 32;
 
@@ -22,35 +22,41 @@ impl SyncTable {
         }
     }
 
+    fn in_use(&self) -> InUse<'_>
+        ensures { (result.ids.now ≡ self.now.ids) × (result.count ≡ self.now.count) }
+    {
+        InUse {
+            ids: &self.ids,
+            count: self.count,
+        }
+    }
+
     // Is the count within the limit and the array, and do the ids in use differ?
     pub fn ok(self, most: usize) -> bool
         ensures { result ≡ counted most self.count self.ids }
     {
-        let ids = self.ids;
-        ok(&ids, self.count, most)
+        self.in_use().ok(most)
     }
 
     // Is every state in use 1, 2 or 3?
     pub fn valid(self) -> bool
         ensures { result ≡ valid_states self }
     {
-        let states = self.states;
-        every_state_ok(&states, self.count)
+        let n = self.count.min(SIZE);
+        self.states[..n].iter().all(|state| matches!(*state, 1..=3))
     }
 
     pub fn has(self, id: u64) -> bool
         ensures { result ≡ ids_of (take self.count self.ids) id }
     {
-        let ids = self.ids;
-        has(&ids, self.count, id)
+        self.in_use().has(id)
     }
 
     // The place of an id; where it isn't there, the number of places in use.
     pub fn place(self, id: u64) -> usize
         ensures { result ≡ place_of id (take self.count self.ids) }
     {
-        let ids = self.ids;
-        place(&ids, self.count, id)
+        self.in_use().place(id)
     }
 
     // The state of an id; 0 where it isn't there.
@@ -58,7 +64,7 @@ impl SyncTable {
         ensures { result ≡ or_zero (state_map self id) }
     {
         let i = self.place(id);
-        let n = lesser(self.count, SIZE);
+        let n = self.count.min(SIZE);
         if i < n {
             return self.states[i];
         }
@@ -66,11 +72,10 @@ impl SyncTable {
     }
 
     // Questions 5 and 8: may a new id be added?
-    pub fn ask_add(self, id: u64, most: usize) -> u8
-        ensures { result ≡ ask_add most self.count self.ids id }
+    pub fn ask_add(self, id: u64, most: usize) -> Result<(), Refusal>
+        ensures { result ≡ asked (ask_add most self.count self.ids id) }
     {
-        let ids = self.ids;
-        ask_add(&ids, self.count, id, most)
+        self.in_use().ask_add(id, most)
     }
 
     // One more at the end; a full table stays as it is.
@@ -78,7 +83,7 @@ impl SyncTable {
         ensures { result ≡ added_sync self id state }
     {
         let n = self.count;
-        if n < SIZE {
+        if n < self.ids.len() {
             self.ids[n] = id;
             self.states[n] = state;
             self.count = n + 1;
@@ -92,7 +97,7 @@ impl SyncTable {
         ensures { result ≡ removed_sync self i }
     {
         let n = self.count;
-        if n <= SIZE {
+        if n <= self.ids.len() {
             if i < n {
                 let last = n - 1;
                 self.ids[i] = self.ids[last];
@@ -108,13 +113,9 @@ impl SyncTable {
     pub fn move_states(mut self, from: u8, to: u8) -> SyncTable
         ensures { result ≡ moved_syncs from to self }
     {
-        let mut states = self.states;
-        let mut i = 0;
-        while i < SIZE {
-            states[i] = moved(states[i], from, to);
-            i += 1;
+        for state in &mut self.states {
+            *state = moved(*state, from, to);
         }
-        self.states = states;
         self
     }
 }
@@ -126,21 +127,4 @@ fn moved(state: u8, from: u8, to: u8) -> u8
         return to;
     }
     state
-}
-
-fn every_state_ok(states: &[u8], count: usize) -> bool
-    ensures { result ≡ every ok_state (take count states.now) }
-{
-    let n = lesser(count, states.len());
-    let mut i = 0;
-    while i < n {
-        if states[i] < 1 {
-            return false;
-        }
-        if 3 < states[i] {
-            return false;
-        }
-        i += 1;
-    }
-    true
 }

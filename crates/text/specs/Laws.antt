@@ -1,6 +1,6 @@
 -- Laws of text in lent bytes: as few digits as hold a number are its decimal digits, and bytes are written as digits pair after pair. Assumes
 -- nothing.
-use Rattle.std.specs.Prelude.{ℕ, zero, suc, ◌+◌, ◌*◌, ◌-◌, ◌/◌, ◌%◌, ◌^◌, ◌≤◌, ◌<◌, min, cond, true, false, ◌≡◌, refl, List, [], ◌∷◌, ◌++◌, ltb, length, take, get_or}
+use Rattle.std.specs.Prelude.{ℕ, zero, suc, ◌+◌, ◌*◌, ◌-◌, ◌/◌, ◌%◌, ◌^◌, ◌≤◌, ◌<◌, min, ◌≡◌, refl, List, [], ◌∷◌, ◌++◌, length, take, get_or}
 use Rattle.std.proofs.Common.{sym, ◌∙◌, ap, mod-eq_of_lt, pow-suc, arith, take_all, length-take-le, lt-ltb, le-ltb}
 use Rattle.std.proofs.Math.Nat.{one-le-pow}
 use Rattle.io.specs.Digits.{hex_digit_ascii, last_digits, IsDigitCount}

@@ -1,6 +1,5 @@
 -- Text in lent bytes: the place after a piece, and what digits a number and bytes have. Assumes nothing.
-use Rattle.std.specs.Prelude.{ℕ, zero, suc, ◌+◌, ◌*◌, ◌-◌, ◌/◌, ◌%◌, ◌^◌, ◌≤◌, ◌<◌, min, cond, true, false, ◌≡◌, refl, List, [], ◌∷◌, ◌++◌, ltb}
-use Rattle.std.proofs.Common.{sym, ◌∙◌, ap, arith}
+use Rattle.std.specs.Prelude.{ℕ, zero, suc, ◌+◌, ◌/◌, ◌%◌, min, cond, List, [], ◌∷◌, ◌++◌, ltb}
 use Rattle.io.specs.Digits.{hex_digit_ascii}
 
 -- the place after so many bytes, the text's end at most

@@ -5,7 +5,6 @@ ghost use Rattle.laws.specs.Splice.{clipped};
 ghost use Rattle.text.specs.Text.{after, decimal, hex_of};
 
 use super::pieces::put;
-use runs::lesser;
 
 pub fn put_decimal(n: u64, text: &mut [u8], at: usize) -> usize
     ensures value { result ≡ after at (length (decimal n)) (length text.old) }
@@ -38,12 +37,10 @@ pub fn put_hex(bytes: &[u8], text: &mut [u8], at: usize) -> usize
     ensures value { result ≡ after at (length (hex_of bytes.now)) (length text.old) }
     ensures text_after { text.new ≡ clipped text.old at (hex_of bytes.now) }
 {
-    let mut place = lesser(at, text.len());
-    let mut i = 0;
-    while i < bytes.len() {
-        let two = pair(bytes[i]);
+    let mut place = at.min(text.len());
+    for &b in bytes {
+        let two = pair(b);
         place = put(&two, text, place);
-        i += 1;
     }
     place
 }

@@ -1,20 +1,11 @@
 // The entries that a line brings.
-use words::Parsed;
 
 fn put_length(sizes: &mut [u16], i: usize, n: u64) {
-    if i < sizes.len() {
-        if n <= 65535 {
-            sizes[i] = n as u16;
+    if let Some(size) = sizes.get_mut(i) {
+        if let Ok(length) = u16::try_from(n) {
+            *size = length;
         }
     }
-}
-
-// The sum; the first number where the sum is too large.
-fn plus(a: usize, b: usize) -> usize {
-    if usize::MAX - b < a {
-        return a;
-    }
-    a + b
 }
 
 // More than a line has words.
@@ -27,24 +18,18 @@ pub(crate) fn read_entries(
     at: usize,
     brought: &mut [u8],
     sizes: &mut [u16],
-) -> Parsed {
-    let mut filled = 0;
+) -> Option<u64> {
+    let mut filled: usize = 0;
     let mut i = at;
-    let mut count = 0;
-    while count < MOST_WORDS {
+    for count in 0..MOST_WORDS {
         let w = words::next_word(line, i);
-        let none = w.none();
-        if none {
-            return Parsed::Is(count as u64);
+        if w.none() {
+            return Some(count as u64);
         }
-        let h = words::hex(line, w, brought, filled);
-        let Parsed::Is(n) = h else {
-            return Parsed::Not;
-        };
+        let n = words::hex(line, w, brought, filled)?;
         put_length(sizes, count, n);
-        filled = plus(filled, n as usize);
+        filled = filled.saturating_add(n as usize);
         i = w.to;
-        count += 1;
     }
-    Parsed::Not
+    None
 }

@@ -2,155 +2,140 @@
 use super::{brought, figures};
 use calls::Step;
 use layout::Location;
-use superblock::MaybeId;
-use words::{Parsed, Word};
+use words::Word;
 
-// `Drive` is the step that the loading driver names.
+// A step of its own, or the one that the loading driver names.
 #[derive(Clone, Copy)]
 pub(crate) enum Command {
-    Is(Step),
+    Take(Step),
     Drive,
-    Not,
 }
 
-fn alone(line: &[u8], w: Word) -> Command {
+fn alone(line: &[u8], w: Word) -> Option<Step> {
     if words::is(line, w, b"f1") {
-        return Command::Is(Step::FinishLoadingSuperblockPhase);
+        return Some(Step::FinishLoadingSuperblockPhase);
     }
     if words::is(line, w, b"f2") {
-        return Command::Is(Step::FinishLoadingOtherPhase);
-    }
-    if words::is(line, w, b"drive") {
-        return Command::Drive;
+        return Some(Step::FinishLoadingOtherPhase);
     }
     if words::is(line, w, b"freeze") {
-        return Command::Is(Step::Freeze);
+        return Some(Step::Freeze);
     }
     if words::is(line, w, b"noop") {
-        return Command::Is(Step::NoOp);
+        return Some(Step::NoOp);
     }
     if words::is(line, w, b"crash") {
-        return Command::Is(Step::CrashInPlace);
+        return Some(Step::CrashInPlace);
     }
-    Command::Not
+    None
 }
 
 // Requests and answers of writes, and commits.
-fn with_write(line: &[u8], w: Word, id: u64) -> Command {
+fn with_write(line: &[u8], w: Word, id: u64) -> Option<Step> {
     if words::is(line, w, b"wj") {
-        return Command::Is(Step::WriteBackJournalReq {
-            id1: id,
-            id2: MaybeId::NoId,
-        });
+        return Some(Step::WriteBackJournalReq { id1: id, id2: None });
     }
     if words::is(line, w, b"aj") {
-        return Command::Is(Step::WriteBackJournalResp { id });
+        return Some(Step::WriteBackJournalResp { id });
     }
     if words::is(line, w, b"cl") {
-        return Command::Is(Step::AdvanceLog { id });
+        return Some(Step::AdvanceLog { id });
     }
     if words::is(line, w, b"co") {
-        return Command::Is(Step::AdvanceLocation { id });
+        return Some(Step::AdvanceLocation { id });
     }
     if words::is(line, w, b"ac") {
-        return Command::Is(Step::WriteBackSuperblockResp { id });
+        return Some(Step::WriteBackSuperblockResp { id });
     }
-    Command::Not
+    None
 }
 
-fn with_number(line: &[u8], w: Word, n: u64) -> Command {
+fn with_number(line: &[u8], w: Word, n: u64) -> Option<Step> {
     if words::is(line, w, b"ar") {
-        return Command::Is(Step::PageInJournalResp { id: n, whole: true });
+        return Some(Step::PageInJournalResp { id: n, whole: true });
     }
     if words::is(line, w, b"xr") {
-        return Command::Is(Step::PageInJournalResp {
+        return Some(Step::PageInJournalResp {
             id: n,
             whole: false,
         });
     }
     if words::is(line, w, b"push") {
-        return Command::Is(Step::PushSyncReq { id: n });
+        return Some(Step::PushSyncReq { id: n });
     }
     if words::is(line, w, b"pop") {
-        return Command::Is(Step::PopSyncReq { id: n });
+        return Some(Step::PopSyncReq { id: n });
     }
     if words::is(line, w, b"again") {
-        return Command::Is(Step::AskAgain { which: n });
+        return Some(Step::AskAgain { which: n });
     }
     if words::is(line, w, b"land") {
-        return Command::Is(Step::Land { which: n });
+        return Some(Step::Land { which: n });
     }
     with_write(line, w, n)
 }
 
-fn with_two(line: &[u8], w: Word, a: u64, b: u64) -> Command {
+fn with_two(line: &[u8], w: Word, a: u64, b: u64) -> Option<Step> {
     if words::is(line, w, b"wj") {
-        return Command::Is(Step::WriteBackJournalReq {
+        return Some(Step::WriteBackJournalReq {
             id1: a,
-            id2: MaybeId::Id(b),
+            id2: Some(b),
         });
     }
     if words::is(line, w, b"rs") {
-        return Command::Is(Step::PageInSuperblockReq { which: a, id: b });
+        return Some(Step::PageInSuperblockReq { which: a, id: b });
     }
     if words::is(line, w, b"as") {
-        return Command::Is(Step::PageInSuperblockResp {
+        return Some(Step::PageInSuperblockResp {
             which: a,
             id: b,
             whole: true,
         });
     }
     if words::is(line, w, b"xs") {
-        return Command::Is(Step::PageInSuperblockResp {
+        return Some(Step::PageInSuperblockResp {
             which: a,
             id: b,
             whole: false,
         });
     }
     if words::is(line, w, b"rj") {
-        return Command::Is(Step::PageInJournalReq { which: a, id: b });
+        return Some(Step::PageInJournalReq { which: a, id: b });
     }
     if words::is(line, w, b"loc") {
         let loc = Location { addr: a, len: b };
-        return Command::Is(Step::ReceiveFrozenLoc { loc });
+        return Some(Step::ReceiveFrozenLoc { loc });
     }
-    Command::Not
+    None
 }
 
 // Every step but those that bring entries.
-fn with_numbers(line: &[u8], w: Word) -> Command {
-    let n = figures::read_numbers(line, w.to);
-    if n.ok {
-        let count = n.count;
-        let a = n.values[0];
-        let b = n.values[1];
-        if count == 0 {
-            return alone(line, w);
-        }
-        if count == 1 {
-            return with_number(line, w, a);
-        }
-        if count == 2 {
-            return with_two(line, w, a, b);
-        }
+fn with_numbers(line: &[u8], w: Word) -> Option<Command> {
+    let n = figures::read_numbers(line, w.to)?;
+    let a = n.values[0];
+    let b = n.values[1];
+    if n.count == 0 && words::is(line, w, b"drive") {
+        return Some(Command::Drive);
     }
-    Command::Not
+    let step = match n.count {
+        0 => alone(line, w)?,
+        1 => with_number(line, w, a)?,
+        2 => with_two(line, w, a, b)?,
+        _ => return None,
+    };
+    Some(Command::Take(step))
 }
 
-// The step of a line; the entries that it brings go to `brought` and `sizes`.
-pub(crate) fn parse(line: &[u8], brought: &mut [u8], sizes: &mut [u16]) -> Command {
+// The step of a line, if it is one; the entries that it brings go to `brought` and `sizes`.
+pub(crate) fn parse(line: &[u8], brought: &mut [u8], sizes: &mut [u16]) -> Option<Command> {
     let w = words::next_word(line, 0);
-    let add = words::is(line, w, b"add");
-    let replay = words::is(line, w, b"replay");
-    if add | replay {
-        let e = brought::read_entries(line, w.to, brought, sizes);
-        let Parsed::Is(entries) = e else {
-            return Command::Not;
-        };
-        if add {
-            return Command::Is(Step::Advance { entries });
-        }
-        return Command::Is(Step::Replay { entries });
+    if words::is(line, w, b"add") {
+        let entries = brought::read_entries(line, w.to, brought, sizes)?;
+        return Some(Command::Take(Step::Advance { entries }));
+    }
+    if words::is(line, w, b"replay") {
+        let entries = brought::read_entries(line, w.to, brought, sizes)?;
+        return Some(Command::Take(Step::Replay { entries }));
     }
     with_numbers(line, w)
 }

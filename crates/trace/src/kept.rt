@@ -1,9 +1,9 @@
 // The disk's bytes at the day's end, to the file that an argument names.
+use super::lent::{MOST_BYTES, Memory};
 use image::write_image;
 use journal::bytes_of;
 use layout::Geometry;
 use requests::Slots;
-use runs::lesser;
 use std::env::{Env, FillError};
 use std::fs::File;
 use std::io;
@@ -58,7 +58,7 @@ fn say_failed(rt: &HostRuntime, name: &[u8], error: io::Error) {
     let c = put(b": ", &mut line, b);
     let d = put_words(rt, error, &mut line, c);
     let end = put(b"\n", &mut line, d);
-    let n = lesser(end, line.len());
+    let n = end.min(line.len());
     say(rt, &line[0..n]);
 }
 
@@ -93,25 +93,24 @@ fn write_named(rt: &HostRuntime, bytes: &[u8]) {
 
 // The image of what the slots hold and of these blocks, to the front of `disk`: how long it is.
 fn write_disk(g: Geometry, slots: Slots, blocks: &[u8], disk: &mut [u8]) -> usize {
-    let first = slots.first;
-    let second = slots.second;
-    let n = bytes_of(g.blocks, disk.len());
-    let end = lesser(HEAD_SIZE + n, disk.len());
-    let q = write_image(g, first, second, blocks, &mut disk[0..end]);
+    let end = (HEAD_SIZE + blocks.len().min(MOST_BYTES)).min(disk.len());
+    let _ = write_image(g, slots.first, slots.second, blocks, &mut disk[0..end]);
     end
 }
 
 // By memory for 32 blocks.
-fn keep_disk(rt: &HostRuntime, g: Geometry, slots: Slots, blocks: &[u8]) {
+fn keep_disk(rt: &HostRuntime, g: Geometry, slots: Slots, memory: &Memory) {
     let mut disk = [0u8; 139264];
-    let n = write_disk(g, slots, blocks, &mut disk);
-    let end = lesser(n, disk.len());
+    let blocks: &[u8] = &memory.blocks;
+    let size = bytes_of(g.blocks, blocks.len());
+    let n = write_disk(g, slots, &blocks[..size], &mut disk);
+    let end = n.min(disk.len());
     write_named(rt, &disk[0..end]);
 }
 
 // Where an argument names a file, the disk's bytes go to it.
-pub(crate) fn keep(rt: &HostRuntime, g: Geometry, slots: Slots, blocks: &[u8]) {
+pub(crate) fn keep(rt: &HostRuntime, g: Geometry, slots: Slots, memory: &Memory) {
     if has_argument(rt, 1) {
-        keep_disk(rt, g, slots, blocks);
+        keep_disk(rt, g, slots, memory);
     }
 }

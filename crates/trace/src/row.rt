@@ -1,40 +1,14 @@
 // A row of output, made in a buffer and written at once; a dash where the kind lacks the column.
 use machine::{Kind, Machine};
 use ready::Ready;
-use runs::{lesser, write_bytes};
-use store::StoreAnswer;
-use superblock::Superblock;
+use refusal::{Refusal, number_of};
+use superblock::{DiskOp, Superblock};
 use tables::SyncTable;
-
-fn refusal(a: StoreAnswer) -> u64 {
-    match a {
-        StoreAnswer::Next(_) => 0,
-        StoreAnswer::Refused(q) => q as u64,
-    }
-}
-
-// These words at a place; the place behind them. What doesn't fit is left out.
-fn text(out: &mut [u8], at: usize, words: &[u8]) -> usize {
-    if out.len() < at {
-        return at;
-    }
-    if out.len() - at < words.len() {
-        return at;
-    }
-    let end = at + words.len();
-    write_bytes(words, out, at);
-    end
-}
-
-fn decimal(out: &mut [u8], at: usize, n: u64) -> usize {
-    let mut digits = [0u8; 20];
-    let k = io::decimal(n, &mut digits);
-    text(out, at, &digits[..k])
-}
+use text::{put, put_decimal};
 
 fn column(out: &mut [u8], at: usize, n: u64) -> usize {
-    let next = text(out, at, b" ");
-    decimal(out, next, n)
+    let next = put(b" ", out, at);
+    put_decimal(n, out, next)
 }
 
 fn superblock(out: &mut [u8], at: usize, s: Superblock) -> usize {
@@ -43,78 +17,44 @@ fn superblock(out: &mut [u8], at: usize, s: Superblock) -> usize {
     column(out, b, s.journalLen)
 }
 
-fn flag(b: bool) -> u64 {
-    if b {
-        return 1;
-    }
-    0
-}
-
-fn less(a: u64, b: u64) -> u64 {
-    if a < b {
-        return 0;
-    }
-    a - b
-}
-
 // Written, frozen, frozen position, frozen and in-memory entries, outstanding journal writes, replay entries left.
 fn working(out: &mut [u8], at: usize, r: Ready) -> usize {
     let f = r.frozen;
     let e = r.entries;
     let w = r.writes;
     let s = r.superblock;
-    let memory = less(e.pending, e.frozen);
-    let left = e.replay_left();
-    let z = flag(f.isFrozen);
     let a = superblock(out, at, s);
     let b = column(out, a, r.writtenJournalLen);
-    let c = column(out, b, z);
+    let c = column(out, b, f.isFrozen as u64);
     let d = column(out, c, f.frozenJournalPosition);
     let p = column(out, d, e.frozen);
-    let m = column(out, p, memory);
+    let m = column(out, p, e.pending.saturating_sub(e.frozen));
     let o = column(out, m, w.count as u64);
-    column(out, o, left)
+    column(out, o, e.replay_left())
 }
 
 fn state(out: &mut [u8], at: usize, m: Machine) -> usize {
     let kind = m.kind;
     match kind {
-        Kind::LoadingSuperblock => text(out, at, b" S - - - - - - - - - -"),
+        Kind::LoadingSuperblock => put(b" S - - - - - - - - - -", out, at),
         Kind::LoadingOther => {
             let other = m.other;
             let s = other.superblock;
-            let a = text(out, at, b" O");
+            let a = put(b" O", out, at);
             let b = superblock(out, a, s);
-            text(out, b, b" - - - - - - -")
+            put(b" - - - - - - -", out, b)
         },
         Kind::Ready => {
             let ready = m.ready;
-            let a = text(out, at, b" R");
+            let a = put(b" R", out, at);
             working(out, a, ready)
         },
     }
 }
 
-fn counted(k: u64, state: u8, wanted: u8) -> u64 {
-    if state != wanted {
-        return k;
-    }
-    if k == u64::MAX {
-        return k;
-    }
-    k + 1
-}
-
 // How many of the first `count` states are this one.
 fn count_state(states: &[u8], count: usize, state: u8) -> u64 {
-    let n = lesser(count, states.len());
-    let mut k = 0;
-    let mut i = 0;
-    while i < n {
-        k = counted(k, states[i], state);
-        i += 1;
-    }
-    k
+    states.iter().take(count).filter(|s| **s == state).count() as u64
 }
 
 fn syncs(out: &mut [u8], at: usize, t: SyncTable) -> usize {
@@ -129,21 +69,21 @@ fn syncs(out: &mut [u8], at: usize, t: SyncTable) -> usize {
 
 // A row that can't be written is lost.
 fn write_out(rt: &HostRuntime, row: &[u8], end: usize) {
-    let k = lesser(end, row.len());
+    let k = end.min(row.len());
     let _ = rt.stdout().write_all(&row[0..k]);
 }
 
 // The longest row: 17 columns of up to 20 digits.
-pub(crate) fn print(rt: &HostRuntime, n: u64, a: StoreAnswer, m: Machine, h: u64) {
+pub(crate) fn print(rt: &HostRuntime, n: u64, a: Result<DiskOp, Refusal>, m: Machine, h: u64) {
     let mut row = [0u8; 512];
     let t = m.sync;
-    let q = refusal(a);
-    let b = decimal(&mut row, 0, n);
+    let q = number_of(&a) as u64;
+    let b = put_decimal(n, &mut row, 0);
     let c = column(&mut row, b, q);
     let d = state(&mut row, c, m);
     let e = syncs(&mut row, d, t);
     let f = column(&mut row, e, h);
-    let end = text(&mut row, f, b"\n");
+    let end = put(b"\n", &mut row, f);
     write_out(rt, &row, end);
 }
 
@@ -154,9 +94,9 @@ pub(crate) fn header(rt: &HostRuntime) {
 
 pub(crate) fn not_a_step(rt: &HostRuntime, n: u64) {
     let mut row = [0u8; 64];
-    let a = text(&mut row, 0, b"line ");
-    let b = decimal(&mut row, a, n);
-    let end = text(&mut row, b, b" is not a step\n");
+    let a = put(b"line ", &mut row, 0);
+    let b = put_decimal(n, &mut row, a);
+    let end = put(b" is not a step\n", &mut row, b);
     write_out(rt, &row, end);
 }
 

@@ -1,10 +1,11 @@
 // What a block of the disk holds before the first step, for a disk that was written before: `block k`, and its bytes.
+use super::lent::{MOST_BLOCKS, Memory};
 use journal::bytes_of;
-use runs::write_bytes;
-use words::Parsed;
+use layout::Geometry;
+use runs::write;
 
 // The block's number; its bytes go to the front of `body`. Not where the line isn't such a one or has more bytes than `body`.
-fn read_block(line: &[u8], body: &mut [u8]) -> Parsed {
+fn read_block(line: &[u8], body: &mut [u8]) -> Option<u64> {
     let w = words::next_word(line, 0);
     let number = words::next_word(line, w.to);
     let bytes = words::next_word(line, number.to);
@@ -12,32 +13,24 @@ fn read_block(line: &[u8], body: &mut [u8]) -> Parsed {
     let named = words::is(line, w, b"block");
     let last = behind.none();
     if named & last {
-        let h = words::hex(line, bytes, body, 0);
-        let Parsed::Is(_) = h else {
-            return Parsed::Not;
-        };
+        words::hex(line, bytes, body, 0)?;
         return words::decimal(line, number);
     }
-    Parsed::Not
+    None
 }
 
-// Is there such a block? Then it holds these bytes, and can be read.
-fn put_block(k: u64, body: &[u8], blocks: &mut [u8], marks: &mut [u8]) -> bool {
-    if k < marks.len() as u64 {
-        let at = bytes_of(k, blocks.len());
-        write_bytes(body, blocks, at);
-        marks[k as usize] = 1;
-        return true;
-    }
-    false
-}
-
-// Was the line a block of the disk? Else blocks and marks are as they were.
-pub(crate) fn store_line(line: &[u8], blocks: &mut [u8], marks: &mut [u8]) -> bool {
+// Was the line a block of the disk? Then the block holds these bytes, and can be read; else blocks and marks are as they were.
+pub(crate) fn store_line(line: &[u8], g: Geometry, memory: &mut Memory) -> bool {
     let mut body = [0u8; 4096];
-    let k = read_block(line, &mut body);
-    let Parsed::Is(place) = k else {
+    let Some(k) = read_block(line, &mut body) else {
         return false;
     };
-    put_block(place, &body, blocks, marks)
+    if g.blocks <= k || MOST_BLOCKS as u64 <= k {
+        return false;
+    }
+    let blocks: &mut [u8] = &mut memory.blocks;
+    let at = bytes_of(k, blocks.len());
+    write(&body, blocks, at);
+    memory.marks[k as usize] = 1;
+    true
 }

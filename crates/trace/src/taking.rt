@@ -1,33 +1,43 @@
 // A step, or the one that the loading driver names, and its row.
+use super::lent::Memory;
 use super::row;
 use calls::Step;
 use digest::check_number;
-use driver::Drive;
+use journal::bytes_of;
 use layout::Geometry;
-use store::{Store, StoreAnswer};
+use refusal::Refusal;
+use store::Store;
+use superblock::DiskOp;
 
 // The row: what was answered, and what is visible of the store then.
 fn show(
     rt: &HostRuntime,
     n: u64,
-    a: StoreAnswer,
+    answer: Result<DiskOp, Refusal>,
     s: Store,
     g: Geometry,
-    bytes: &[u8],
-    lens: &[u16],
-    pieces: &[u8],
-    rbytes: &[u8],
-    rlens: &[u16],
-    blocks: &[u8],
-    marks: &[u8],
+    memory: &Memory,
 ) {
-    let m = s.machine;
-    let d = s.disk;
-    let slots = d.slots;
+    let pieces: &[u8] = &memory.pieces;
+    let rbytes: &[u8] = &memory.rbytes;
+    let rlens: &[u16] = &memory.rlens;
+    let blocks: &[u8] = &memory.blocks;
+    let marks: &[u8] = &memory.marks;
+    let size = bytes_of(g.blocks, pieces.len());
+    let count = (g.blocks as usize).min(marks.len());
     let h = check_number(
-        slots, m, g, bytes, lens, pieces, rbytes, rlens, blocks, marks,
+        s.disk.slots,
+        s.machine,
+        g,
+        &memory.bytes,
+        &memory.lens,
+        &pieces[..size],
+        &rbytes[..size],
+        &rlens[..size],
+        &blocks[..size],
+        &marks[..count],
     );
-    row::print(rt, n, a, m, h);
+    row::print(rt, n, answer, s.machine, h);
 }
 
 // The step with the entries that it brings.
@@ -39,55 +49,64 @@ pub(crate) fn step(
     x: Step,
     brought: &[u8],
     sizes: &[u16],
-    bytes: &mut [u8],
-    lens: &mut [u16],
-    pieces: &mut [u8],
-    rbytes: &mut [u8],
-    rlens: &mut [u16],
-    blocks: &mut [u8],
-    marks: &mut [u8],
+    memory: &mut Memory,
 ) -> Store {
     let none = [0u8; 1];
+    let pieces: &mut [u8] = &mut memory.pieces;
+    let rbytes: &mut [u8] = &mut memory.rbytes;
+    let rlens: &mut [u16] = &mut memory.rlens;
+    let blocks: &mut [u8] = &mut memory.blocks;
+    let marks: &mut [u8] = &mut memory.marks;
+    let size = bytes_of(g.blocks, pieces.len());
+    let count = (g.blocks as usize).min(marks.len());
     let r = calls::step(
-        s, g, x, brought, sizes, &none, &none, bytes, lens, pieces, rbytes, rlens, blocks, marks,
+        s,
+        g,
+        x,
+        brought,
+        sizes,
+        &none,
+        &none,
+        &mut memory.bytes,
+        &mut memory.lens,
+        &mut pieces[..size],
+        &mut rbytes[..size],
+        &mut rlens[..size],
+        &mut blocks[..size],
+        &mut marks[..count],
     );
-    let next = r.store;
-    let a = r.answer;
-    show(
-        rt, n, a, next, g, bytes, lens, pieces, rbytes, rlens, blocks, marks,
-    );
-    next
+    show(rt, n, r.answer, r.store, g, memory);
+    r.store
 }
 
 // The step that the driver names; it brings nothing.
-pub(crate) fn drive(
-    rt: &HostRuntime,
-    s: Store,
-    g: Geometry,
-    n: u64,
-    bytes: &mut [u8],
-    lens: &mut [u16],
-    pieces: &mut [u8],
-    rbytes: &mut [u8],
-    rlens: &mut [u16],
-    blocks: &mut [u8],
-    marks: &mut [u8],
-) -> Store {
-    let named = driver::next_step(s, g, bytes, lens, pieces, rbytes, rlens, blocks, marks);
-    match named {
-        Drive::Take(x) => {
-            let brought = [0u8; 1];
-            let sizes = [0u16; 1];
-            step(
-                rt, s, g, n, x, &brought, &sizes, bytes, lens, pieces, rbytes, rlens, blocks, marks,
-            )
-        },
-        Drive::Refused(q) => {
-            let a = StoreAnswer::Refused(q);
-            show(
-                rt, n, a, s, g, bytes, lens, pieces, rbytes, rlens, blocks, marks,
-            );
+pub(crate) fn drive(rt: &HostRuntime, s: Store, g: Geometry, n: u64, memory: &mut Memory) -> Store {
+    match named(s, g, memory) {
+        Ok(x) => step(rt, s, g, n, x, &[0; 1], &[0; 1], memory),
+        Err(no) => {
+            show(rt, n, Err(no), s, g, memory);
             s
         },
     }
+}
+
+fn named(s: Store, g: Geometry, memory: &Memory) -> Result<Step, Refusal> {
+    let pieces: &[u8] = &memory.pieces;
+    let rbytes: &[u8] = &memory.rbytes;
+    let rlens: &[u16] = &memory.rlens;
+    let blocks: &[u8] = &memory.blocks;
+    let marks: &[u8] = &memory.marks;
+    let size = bytes_of(g.blocks, pieces.len());
+    let count = (g.blocks as usize).min(marks.len());
+    driver::next_step(
+        s,
+        g,
+        &memory.bytes,
+        &memory.lens,
+        &pieces[..size],
+        &rbytes[..size],
+        &rlens[..size],
+        &blocks[..size],
+        &marks[..count],
+    )
 }

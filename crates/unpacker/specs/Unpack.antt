@@ -12,9 +12,6 @@ use Rattle.laws.specs.Cut.{flat, lengths, length_flat, length_lengths, flat_appe
 use Rattle.range.specs.Form.{Entry, block_size, most_entry_length, length_width, parses, all_entries, all_parse}
 use Rattle.range.specs.Walk.{all_end}
 use Rattle.range.specs.Ranges.{all_entries_count, all_entries_bytes}
-use Rattle.reader.specs.declared.answer.Scanned.{Scanned}
-use Rattle.reader.specs.declared.answer.Scanned.TheVariants as scan
-use Rattle.reader.specs.Answer.{scanned, scanned_total, scanned_refused}
 use Rattle.reader.specs.declared.answer.Contents.{Contents}
 use Rattle.reader.specs.Range.{contents_of}
 use Rattle.reader.specs.Front.{front_range, front_entries, InFront, Fronted, fronted}
@@ -149,7 +146,7 @@ module _ (xs bytes₀ lens₀ : List ℕ) (room : Room xs bytes₀ lens₀) (at 
     unfolding lengths
     unpacked_lens = written_all (lengths (all_entries xs)) (lengths (all_entries (drop at xs))) lens₀ lens n u.sizes (ap (λ (es : List Entry). length (lengths es)) none)
 
--- the ways out: memory that is too short, bytes that don't parse, and the entries written
+-- memory that is too short, and memory that leaves the question whether the bytes parse
 module _ (xs bytes lens : List ℕ) where
   pub no_bytes : length bytes < length xs → ask_unpack xs bytes lens ≡ 1
   unfolding ask_unpack and_then ask also
@@ -162,23 +159,3 @@ module _ (xs bytes lens : List ℕ) where
   pub lent : length xs ≤ length bytes → length xs ≤ length lens → ask_unpack xs bytes lens ≡ ask 7 (all_parse xs)
   unfolding ask_unpack and_then ask also
   lent h k = simp (le-leb (length xs) (length bytes) h, le-leb (length xs) (length lens) k)
-
--- in each of them: the answer, and what a lent slice has become
-pub unpack_unlent : (q : ℕ) (es : List Entry) → q ≡ 1 → scan.Refused 1 ≡ scanned q es
-unpack_unlent q es h = simp h
-
-pub unpack_unlent_kept : (q : ℕ) (x new : List ℕ) → q ≡ 1 → x ≡ unless q x new
-unpack_unlent_kept q x new h = sym (unless_kept q x new (omega arith))
-
-module _ (q a : ℕ) (h : q ≡ a) where
-  pub unpack_answer : (r : Scanned) (es : List Entry) → r ≡ scanned a es → r ≡ scanned q es
-  unpack_answer r es e = e ∙ ap (λ (n : ℕ). scanned n es) (sym h)
-
-  pub unpack_kept : (n : ℕ) (es : List Entry) (x new : List ℕ) → scan.Refused n ≡ scanned a es → x ≡ unless q x new
-  unpack_kept n es x new e = sym (unless_kept q x new (λ k. (scanned_refused a n es e).1 (sym h ∙ k)))
-
-  pub unpack_done : (n t : ℕ) (es : List Entry) (x old new : List ℕ) → scan.Total n t ≡ scanned a es → x ≡ new → x ≡ unless q old new
-  unpack_done n t es x old new e k = k ∙ sym (unless_done q old new (h ∙ (scanned_total a n t es e).0))
-
-pub unpack_parses : (xs : List ℕ) (n t : ℕ) (es : List Entry) → scan.Total n t ≡ scanned (ask 7 (all_parse xs)) es → all_parse xs ≡ true
-unpack_parses xs n t es e = ask_yes 7 (all_parse xs) (omega arith) (scanned_total (ask 7 (all_parse xs)) n t es e).0

@@ -1,4 +1,5 @@
 -- A walk from range to range: what was counted so far, and that what is left parses exactly where the whole does. Assumes nothing.
+use Rattle.std.specs.Prelude.{None, Ok, Err}
 use Rattle.std.specs.Prelude.{ℕ, ◌+◌, ◌-◌, ◌≤◌, ◌<◌, Bool, true, false, ◌≡◌, refl, take, drop}
 use Rattle.std.proofs.Common.{sym, ◌∙◌, arith, length-append, length-drop}
 use Rattle.std.proofs.Math.Path.{ap}
@@ -10,9 +11,8 @@ use Rattle.laws.specs.Fold.{sum, sum_append}
 use Rattle.laws.specs.Cut.{lengths, lengths_append}
 use Rattle.range.specs.Form.{Entry, most_entry_length, length_width, block_count, entries, parses, range_size, all_entries, all_parse}
 use Rattle.range.specs.Walk.{all_done, all_end, all_empty, all_no, all_yes, entries_next}
-use Rattle.reader.specs.declared.answer.Scanned.TheVariants as scan
+use Rattle.refusal.specs.declared.Refusal.TheVariants as no
 use Rattle.reader.specs.Answer.{scanned}
-use Rattle.reader.specs.declared.answer.Front.TheVariants as front
 use Rattle.reader.specs.Front.{front_range, front_entries, InFront, front_of, Fronted, front_none}
 
 -- n entries with t bytes stand before the place `at`
@@ -28,13 +28,13 @@ walked_none xs = record { within = omega arith; parse = refl; count = omega arit
 
 module _ (xs : List ℕ) (at n t : ℕ) (w : Walked xs at n t) where
   -- the end
-  pub walked_all : length xs ≤ at → scan.Total n t ≡ scanned (ask 7 (all_parse xs)) (all_entries xs)
+  pub walked_all : length xs ≤ at → Ok (record { entries = n; bytes = t }) ≡ scanned (ask 7 (all_parse xs)) (all_entries xs)
   unfolding ask lengths sum
   walked_all h =
       let e : all_entries (drop at xs) ≡ [] = all_end length_width most_entry_length xs at h in
       let k : n ≡ length (all_entries xs) = omega (arith, w.count, ap length e) in
       let b : t ≡ sum (lengths (all_entries xs)) = omega (arith, w.bytes, ap (λ (l : List Entry). sum (lengths l)) e) in
-      (λ i. scan.Total (k i) (b i))
+      (λ i. Ok (record { entries = k i; bytes = b i }))
       ∙ ap (λ (p : Bool). scanned (ask 7 p) (all_entries xs)) (all_done length_width most_entry_length xs at h w.parse)
 
   module _ (h : at < length xs) where
@@ -45,7 +45,7 @@ module _ (xs : List ℕ) (at n t : ℕ) (w : Walked xs at n t) where
         (λ z. all_empty length_width most_entry_length xs at h w.parse z)
         (λ z. all_no length_width most_entry_length xs at (range_size (drop at xs)) h (omega arith) (omega arith) w.parse p)
 
-    pub walked_no : front.Nothing ≡ front_of (drop at xs) → scan.Refused 7 ≡ scanned (ask 7 (all_parse xs)) (all_entries xs)
+    pub walked_no : None ≡ front_of (drop at xs) → Err no.Parse ≡ scanned (ask 7 (all_parse xs)) (all_entries xs)
     unfolding ask
     walked_no e = ap (λ (p : Bool). scanned (ask 7 p) (all_entries xs)) (walked_bad (front_none (drop at xs) e))
 

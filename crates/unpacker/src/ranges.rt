@@ -4,27 +4,24 @@ ghost use Rattle.laws.specs.Choice.{ask};
 ghost use Rattle.range.specs.Form.{all_entries, all_parse};
 ghost use Rattle.reader.specs.Answer.{scanned};
 
-use range::BLOCK_SIZE;
-use reader::{Front, Scanned, range_in_front};
+use range::{BLOCK_SIZE, Count};
+use reader::range_in_front;
+use refusal::Refusal;
 
-// How many entries the ranges have, and how many bytes these have together. A 7 where the bytes aren't ranges to the last one.
-pub fn scan(s: &[u8]) -> Scanned
+// How many entries the ranges have, and how many bytes these have together. Question 7 where the bytes aren't ranges to the last one.
+pub fn scan(s: &[u8]) -> Result<Count, Refusal>
     ensures { result ≡ scanned (ask 7 (all_parse s.now)) (all_entries s.now) }
 {
     let mut at = 0;
-    let mut count: u64 = 0;
-    let mut total: u64 = 0;
+    let mut entries: u64 = 0;
+    let mut bytes: u64 = 0;
     while at < s.len() {
-        let f = range_in_front(&s[at..]);
-        let Front::Range(c) = f else {
-            return Scanned::Refused(7);
+        let Some(c) = range_in_front(&s[at..]) else {
+            return Err(Refusal::Parse);
         };
-        count += c.entries as u64;
-        total += c.bytes as u64;
+        entries += c.entries as u64;
+        bytes += c.bytes as u64;
         at += c.blocks * BLOCK_SIZE;
     }
-    Scanned::Total {
-        entries: count,
-        bytes: total,
-    }
+    Ok(Count { entries, bytes })
 }

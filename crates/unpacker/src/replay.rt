@@ -10,9 +10,10 @@ ghost use Rattle.reader.specs.Front.{InFront, front_entries};
 ghost use Rattle.unpacker.specs.Unpack.{ask_unpack, Room};
 
 use super::ranges::scan;
-use range::{BLOCK_SIZE, HEAD_SIZE};
-use reader::{Contents, Scanned, contents};
-use runs::{widen, write_bytes};
+use range::{BLOCK_SIZE, Count, HEAD_SIZE};
+use reader::{Contents, contents};
+use refusal::Refusal;
+use runs::{widen, write};
 
 // The bodies of the range in front of s to `bytes` from `at` on, its lengths to `lens` from `n` on.
 fn unpack_range(s: &[u8], bytes: &mut [u8], at: usize, lens: &mut [u16], n: usize) -> Contents
@@ -24,7 +25,7 @@ fn unpack_range(s: &[u8], bytes: &mut [u8], at: usize, lens: &mut [u16], n: usiz
     let c = contents(s);
     let bodies = HEAD_SIZE + c.entries;
     let end = bodies + c.bytes;
-    write_bytes(&s[bodies..end], bytes, at);
+    write(&s[bodies..end], bytes, at);
     widen(&s[HEAD_SIZE..bodies], lens, n);
     c
 }
@@ -46,27 +47,20 @@ fn unpack_all(s: &[u8], bytes: &mut [u8], lens: &mut [u16])
     }
 }
 
-// The entries of all ranges into replay memory, which has a place for each byte (else a 1): their bodies to the front of `bytes`, their
-// lengths to the front of `lens`. A 7 where the bytes aren't ranges to the last one.
-pub fn unpack(s: &[u8], bytes: &mut [u8], lens: &mut [u16]) -> Scanned
+// The entries of all ranges into replay memory, which has a place for each byte (question 1): their bodies to the front of `bytes`, their
+// lengths to the front of `lens`. Question 7 where the bytes aren't ranges to the last one.
+pub fn unpack(s: &[u8], bytes: &mut [u8], lens: &mut [u16]) -> Result<Count, Refusal>
     ensures value { result ≡ scanned (ask_unpack s.now bytes.old lens.old) (all_entries s.now) }
     ensures bytes_after { bytes.new ≡ unless (ask_unpack s.now bytes.old lens.old) bytes.old (splice bytes.old 0 (flat (all_entries s.now))) }
     ensures lens_after { lens.new ≡ unless (ask_unpack s.now bytes.old lens.old) lens.old (splice lens.old 0 (lengths (all_entries s.now))) }
 {
     if bytes.len() < s.len() {
-        return Scanned::Refused(1);
+        return Err(Refusal::Sizes);
     }
     if lens.len() < s.len() {
-        return Scanned::Refused(1);
+        return Err(Refusal::Sizes);
     }
-    let c = scan(s);
-    let Scanned::Total {
-        entries,
-        bytes: total,
-    } = c
-    else {
-        return c;
-    };
+    let c = scan(s)?;
     unpack_all(s, bytes, lens);
-    c
+    Ok(c)
 }

@@ -1,8 +1,8 @@
 // Works through the lines of document 01's brew day that have no star, at N = 8 and T = 4,096, and prints each with what it found.
 #![tactic(auto)]
 
-use layout::{Address, Decision, Geometry, Location};
-use writer::Written;
+use layout::{Geometry, Location};
+use refusal::Refusal;
 
 fn day() -> Geometry {
     Geometry {
@@ -15,27 +15,28 @@ fn print_number(rt: &impl Print, n: u64) {
     let _ = println!(rt; "{n}");
 }
 
-fn print_refusal(rt: &impl Print, q: u8) {
+fn print_refusal(rt: &impl Print, no: Refusal) {
+    let q = no.number();
     let _ = println!(rt; "refused {q}");
 }
 
-fn print_address(rt: &impl Print, a: Address) {
-    match a {
-        Address::At(addr) => print_number(rt, addr),
-        Address::Refused(q) => print_refusal(rt, q),
+fn print_answer(rt: &impl Print, answer: Result<u64, Refusal>) {
+    match answer {
+        Ok(n) => print_number(rt, n),
+        Err(no) => print_refusal(rt, no),
     }
 }
 
-fn print_decision(rt: &impl Print, d: Decision) {
-    match d {
-        Decision::Is(b) => {
+fn print_decision(rt: &impl Print, decision: Result<bool, Refusal>) {
+    match decision {
+        Ok(b) => {
             let _ = if b {
                 println!(rt; "valid")
             } else {
                 println!(rt; "not valid")
             };
         }
-        Decision::Refused(q) => print_refusal(rt, q),
+        Err(no) => print_refusal(rt, no),
     }
 }
 
@@ -52,16 +53,12 @@ fn last_entry(rt: &impl Print, last: u16) {
     let mut lengths = [255u16; 16];
     lengths[15] = last;
     let _ = print!(rt; "15 entries of 255 bytes and one of {last}, in blocks: ");
-    let w = writer::range_blocks(&bodies, &lengths, 16);
-    match w {
-        Written::Blocks(b) => print_number(rt, b),
-        Written::Refused(q) => print_refusal(rt, q),
-    }
+    print_answer(rt, writer::range_blocks(&bodies, &lengths, 16));
 }
 
 fn main(rt: HostRuntime) {
     let _ = print!(rt; "table 1 is at ");
-    print_address(&rt, day().indirection_table1_addr());
+    print_answer(&rt, day().indirection_table1_addr());
     table_length(&rt, 4096);
     table_length(&rt, 0);
     table_length(&rt, 4097);

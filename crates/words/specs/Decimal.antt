@@ -1,4 +1,6 @@
 -- Decimal numbers of 64 bits: digits alone, at least one of them, the highest first, with a value below 2^64. Assumes nothing.
+use Rattle.std.specs.Prelude.{None, Some}
+use Rattle.std.specs.declared.option.Option as code
 use Rattle.std.specs.Prelude.{ℕ, ◌+◌, ◌-◌, ◌*◌, ◌≤◌, ◌<◌, Bool, true, false, cond, ◌≡◌, refl, List, [], ◌∷◌, leb, ltb, length, drop, get_or}
 use Rattle.std.proofs.Math.Path.{sym, ap}
 use Rattle.std.proofs.Common.{◌∙◌, arith}
@@ -8,8 +10,6 @@ use Rattle.laws.specs.Fold.{every}
 use Rattle.laws.specs.Part.{drop_step, drop_end}
 use Rattle.words.specs.Line.{lies, bytes_of}
 use Rattle.words.specs.declared.Word.{Word}
-use Rattle.words.specs.declared.Parsed.{Parsed}
-use Rattle.words.specs.declared.Parsed.TheVariants as parsed
 
 -- a decimal digit
 unfoldable pub is_digit : ℕ → Bool
@@ -25,28 +25,28 @@ unfoldable pub is_small : ℕ → Bool
 is_small n = ltb n 18446744073709551616
 
 -- a number and the digits that follow it
-unfoldable pub follows : ℕ → List ℕ → Parsed
-follows v cs = cond (also (every is_digit cs) (is_small (value v cs))) (parsed.Is (value v cs)) parsed.Not
+unfoldable pub follows : ℕ → List ℕ → code.Option ℕ
+follows v cs = cond (also (every is_digit cs) (is_small (value v cs))) (Some (value v cs)) None
 
 -- digits, at least one
-unfoldable pub number_of : List ℕ → Parsed
-number_of cs = cond (ltb 0 (length cs)) (follows 0 cs) parsed.Not
+unfoldable pub number_of : List ℕ → code.Option ℕ
+number_of cs = cond (ltb 0 (length cs)) (follows 0 cs) None
 
 -- a word of a line
-unfoldable pub decimal_of : List ℕ → Word → Parsed
-decimal_of line w = cond (lies w (length line)) (number_of (bytes_of line w)) parsed.Not
+unfoldable pub decimal_of : List ℕ → Word → code.Option ℕ
+decimal_of line w = cond (lies w (length line)) (number_of (bytes_of line w)) None
 
 -- one digit that follows a number
-unfoldable pub one_more : ℕ → ℕ → Parsed
-one_more v c = cond (also (is_digit c) (is_small (v * 10 + (c - 48)))) (parsed.Is (v * 10 + (c - 48))) parsed.Not
+unfoldable pub one_more : ℕ → ℕ → code.Option ℕ
+one_more v c = cond (also (is_digit c) (is_small (v * 10 + (c - 48)))) (Some (v * 10 + (c - 48))) None
 
 -- a digit that follows: the number has 64 bits, or is too large
 module _ (v c : ℕ) (h : 48 ≤ c) (k : c ≤ 57) where
-  pub more_is : v * 10 + (c - 48) < 18446744073709551616 → parsed.Is (v * 10 + (c - 48)) ≡ one_more v c
+  pub more_is : v * 10 + (c - 48) < 18446744073709551616 → Some (v * 10 + (c - 48)) ≡ one_more v c
   unfolding one_more is_digit is_small also
   more_is l = sym (simp (le-leb 48 c h, le-leb c 57 k, lt-ltb (v * 10 + (c - 48)) 18446744073709551616 l))
 
-  pub more_not : 18446744073709551616 ≤ v * 10 + (c - 48) → parsed.Not ≡ one_more v c
+  pub more_not : 18446744073709551616 ≤ v * 10 + (c - 48) → None ≡ one_more v c
   unfolding one_more is_digit is_small also
   more_not l = sym (simp (le-leb 48 c h, le-leb c 57 k, le-ltb (v * 10 + (c - 48)) 18446744073709551616 l))
 
@@ -61,9 +61,9 @@ unfolding is_small
 large_stays v cs e = le-ltb (value v cs) 18446744073709551616 (omega (arith, value_grows v cs, ltb-false v 18446744073709551616 e))
 
 -- what follows the answer of a digit
-unfoldable pub followed : Parsed → List ℕ → Parsed
-followed (parsed.Is v) cs = follows v cs
-followed parsed.Not cs = parsed.Not
+unfoldable pub followed : code.Option ℕ → List ℕ → code.Option ℕ
+followed (Some v) cs = follows v cs
+followed None cs = None
 
 follows_step : (v c : ℕ) (cs : List ℕ) → follows v (c ∷ cs) ≡ followed (one_more v c) cs
 unfolding follows followed one_more every value also
@@ -73,20 +73,20 @@ follows_step v c cs = go (is_digit c) (is_small (v * 10 + (c - 48))) refl
     next = v * 10 + (c - 48)
 
     go : (a b : Bool) → is_small next ≡ b
-        → cond (also (also a (every is_digit cs)) (is_small (value next cs))) (parsed.Is (value next cs)) parsed.Not ≡ followed (cond (also a b) (parsed.Is next) parsed.Not) cs
+        → cond (also (also a (every is_digit cs)) (is_small (value next cs))) (Some (value next cs)) None ≡ followed (cond (also a b) (Some next) None) cs
     go true true e = refl
     go true false e = rw (large_stays next cs e, also_false (every is_digit cs)) refl
     go false b e = refl
 
 -- a number that a digit made has 64 bits
-pub more_small : (v c w : ℕ) {n : Parsed} → n ≡ one_more v c → n ≡ parsed.Is w → w < 18446744073709551616
+pub more_small : (v c w : ℕ) {n : code.Option ℕ} → n ≡ one_more v c → n ≡ Some w → w < 18446744073709551616
 unfolding one_more is_small also
 more_small v c w p q = go (is_digit c) (ltb next 18446744073709551616) refl (sym p ∙ q)
   where
     next : ℕ
     next = v * 10 + (c - 48)
 
-    go : (a b : Bool) → ltb next 18446744073709551616 ≡ b → cond (also a b) (parsed.Is next) parsed.Not ≡ parsed.Is w → w < 18446744073709551616
+    go : (a b : Bool) → ltb next 18446744073709551616 ≡ b → cond (also a b) (Some next) None ≡ Some w → w < 18446744073709551616
     go true true e h = let k : next ≡ w = cc in omega (arith, ltb-true next 18446744073709551616 e, k)
     go true false e h = ruin (cc)
     go false b e h = ruin (cc)
@@ -96,30 +96,30 @@ module _ (cs : List ℕ) (i v : ℕ) (e : follows v (drop i cs) ≡ follows 0 cs
   step : i < length cs → followed (one_more v (get_or cs i 0)) (drop (i + 1) cs) ≡ follows 0 cs
   step h = sym (follows_step v (get_or cs i 0) (drop (i + 1) cs)) ∙ ap (follows v) (sym (drop_step cs i 0 h)) ∙ e
 
-  pub digit_is : {n : Parsed} (w : ℕ) → i < length cs → n ≡ one_more v (get_or cs i 0) → n ≡ parsed.Is w → follows w (drop (i + 1) cs) ≡ follows 0 cs
+  pub digit_is : {n : code.Option ℕ} (w : ℕ) → i < length cs → n ≡ one_more v (get_or cs i 0) → n ≡ Some w → follows w (drop (i + 1) cs) ≡ follows 0 cs
   unfolding followed
-  digit_is w h p q = ap (λ (x : Parsed). followed x (drop (i + 1) cs)) (sym q ∙ p) ∙ step h
+  digit_is w h p q = ap (λ (x : code.Option ℕ). followed x (drop (i + 1) cs)) (sym q ∙ p) ∙ step h
 
-  pub digit_not : {n : Parsed} → i < length cs → n ≡ one_more v (get_or cs i 0) → n ≡ parsed.Not → parsed.Not ≡ number_of cs
+  pub digit_not : {n : code.Option ℕ} → i < length cs → n ≡ one_more v (get_or cs i 0) → n ≡ None → None ≡ number_of cs
   unfolding followed number_of
-  digit_not h p q = ap (λ (x : Parsed). followed x (drop (i + 1) cs)) (sym q ∙ p) ∙ step h ∙ sym (simp (lt-ltb 0 (length cs) (omega arith)))
+  digit_not h p q = ap (λ (x : code.Option ℕ). followed x (drop (i + 1) cs)) (sym q ∙ p) ∙ step h ∙ sym (simp (lt-ltb 0 (length cs) (omega arith)))
 
-  pub digits_end : length cs ≤ i → 0 < length cs → v < 18446744073709551616 → parsed.Is v ≡ number_of cs
+  pub digits_end : length cs ≤ i → 0 < length cs → v < 18446744073709551616 → Some v ≡ number_of cs
   unfolding number_of follows every value is_small also
   digits_end h k l =
       sym (rw (drop_end cs i h) (simp (lt-ltb v 18446744073709551616 l)))
       ∙ e
       ∙ sym (simp (lt-ltb 0 (length cs) k))
 
-pub no_digits : (cs : List ℕ) → length cs ≡ 0 → parsed.Not ≡ number_of cs
+pub no_digits : (cs : List ℕ) → length cs ≡ 0 → None ≡ number_of cs
 unfolding number_of
 no_digits cs h = sym (simp (le-ltb 0 (length cs) (omega arith)))
 
 -- a word that lies in the line, and one that doesn't
-pub decimal_in : (line : List ℕ) (w : Word) {b : Bool} {n : Parsed} → b ≡ lies w (length line) → b ≡ true → n ≡ number_of (bytes_of line w) → n ≡ decimal_of line w
+pub decimal_in : (line : List ℕ) (w : Word) {b : Bool} {n : code.Option ℕ} → b ≡ lies w (length line) → b ≡ true → n ≡ number_of (bytes_of line w) → n ≡ decimal_of line w
 unfolding decimal_of
 decimal_in line w e h q = q ∙ sym (simp (sym e ∙ h))
 
-pub decimal_out : (line : List ℕ) (w : Word) {b : Bool} → b ≡ lies w (length line) → b ≡ false → parsed.Not ≡ decimal_of line w
+pub decimal_out : (line : List ℕ) (w : Word) {b : Bool} → b ≡ lies w (length line) → b ≡ false → None ≡ decimal_of line w
 unfolding decimal_of
 decimal_out line w e h = sym (simp (sym e ∙ h))

@@ -1,4 +1,6 @@
 -- Bytes in hexadecimal: two digits of either case for each byte, the high one first. Assumes nothing.
+use Rattle.std.specs.Prelude.{None, Some}
+use Rattle.std.specs.declared.option.Option as code
 use Rattle.std.specs.Prelude.{ℕ, zero, suc, ◌+◌, ◌-◌, ◌*◌, ◌/◌, ◌%◌, ◌≤◌, ◌<◌, Bool, true, false, cond, ◌&&◌, ◌≡◌, refl, List, [], ◌∷◌, leb, ltb, eqb, length, take, get_or, set}
 use Rattle.std.proofs.Math.Path.{sym}
 use Rattle.std.proofs.Common.{◌∙◌, ap, arith, take_all, eqb-true, leb-true, ltb-true, le-leb}
@@ -7,8 +9,6 @@ use Rattle.laws.specs.Fold.{every}
 use Rattle.laws.specs.Splice.{splice, copy_turn}
 use Rattle.words.specs.Line.{lies, bytes_of}
 use Rattle.words.specs.declared.Word.{Word}
-use Rattle.words.specs.declared.Parsed.{Parsed}
-use Rattle.words.specs.declared.Parsed.TheVariants as parsed
 
 -- from one number to another
 unfoldable pub between : ℕ → ℕ → ℕ → Bool
@@ -32,16 +32,16 @@ unfoldable pub fits : List ℕ → ℕ → ℕ → Bool
 fits cs n at = also (eqb (length cs % 2) 0) (also (leb (at + length cs / 2) n) (every is_hex cs))
 
 -- how many bytes they are
-unfoldable pub count_of : List ℕ → ℕ → ℕ → Parsed
-count_of cs n at = cond (fits cs n at) (parsed.Is (length cs / 2)) parsed.Not
+unfoldable pub count_of : List ℕ → ℕ → ℕ → code.Option ℕ
+count_of cs n at = cond (fits cs n at) (Some (length cs / 2)) None
 
 -- and the memory with them
 unfoldable pub written : List ℕ → List ℕ → ℕ → List ℕ
 written cs out at = cond (fits cs (length out) at) (splice out at (bytes cs)) out
 
 -- of a word of a line
-unfoldable pub hex_count : List ℕ → Word → ℕ → ℕ → Parsed
-hex_count line w n at = cond (lies w (length line)) (count_of (bytes_of line w) n at) parsed.Not
+unfoldable pub hex_count : List ℕ → Word → ℕ → ℕ → code.Option ℕ
+hex_count line w n at = cond (lies w (length line)) (count_of (bytes_of line w) n at) None
 
 unfoldable pub hex_written : List ℕ → Word → List ℕ → ℕ → List ℕ
 hex_written line w out at = cond (lies w (length line)) (written (bytes_of line w) out at) out
@@ -135,11 +135,11 @@ module _ (x out cs : List ℕ) (at j : ℕ) (e : x ≡ splice out at (take j (by
 
 -- digits that fit are written, others aren't
 module _ (cs : List ℕ) (n at : ℕ) {b : Bool} (e : b ≡ fits cs n at) where
-  pub count_yes : b ≡ true → parsed.Is (length cs / 2) ≡ count_of cs n at
+  pub count_yes : b ≡ true → Some (length cs / 2) ≡ count_of cs n at
   unfolding count_of
   count_yes h = sym (simp (sym e ∙ h))
 
-  pub count_no : b ≡ false → parsed.Not ≡ count_of cs n at
+  pub count_no : b ≡ false → None ≡ count_of cs n at
   unfolding count_of
   count_no h = sym (simp (sym e ∙ h))
 
@@ -154,11 +154,11 @@ module _ (cs out : List ℕ) (at : ℕ) {b : Bool} (e : b ≡ fits cs (length ou
 
 -- a word that lies in the line, and one that doesn't
 module _ (line : List ℕ) (w : Word) {b : Bool} (e : b ≡ lies w (length line)) where
-  pub hex_in : (n at : ℕ) {r : Parsed} → b ≡ true → r ≡ count_of (bytes_of line w) n at → r ≡ hex_count line w n at
+  pub hex_in : (n at : ℕ) {r : code.Option ℕ} → b ≡ true → r ≡ count_of (bytes_of line w) n at → r ≡ hex_count line w n at
   unfolding hex_count
   hex_in n at h q = q ∙ sym (simp (sym e ∙ h))
 
-  pub hex_out : (n at : ℕ) → b ≡ false → parsed.Not ≡ hex_count line w n at
+  pub hex_out : (n at : ℕ) → b ≡ false → None ≡ hex_count line w n at
   unfolding hex_count
   hex_out n at h = sym (simp (sym e ∙ h))
 

@@ -1,7 +1,11 @@
 -- Words of a line: where the next one lies, whether a word lies in its line, and its bytes. Assumes nothing.
-use Rattle.std.specs.Prelude.{ℕ, ◌-◌, ◌≤◌, Bool, true, false, ◌≡◌, List, leb, length, take, drop}
-use Rattle.std.proofs.Common.{sym, ◌∙◌, ap, leb-true}
-use Rattle.laws.specs.Choice.{also, also_left, also_right}
+use Rattle.std.specs.Prelude.{ℕ, ◌-◌, ◌≤◌, Bool, true, false, ◌≡◌, List, leb, length, take, drop, MatchOption, None, Some}
+use Rattle.std.specs.declared.option.Option as code
+use Rattle.std.specs.List.{PartBy}
+use Rattle.std.proofs.Common.{sym, ◌∙◌, ap, leb-true, le-leb, ⊎_elim}
+use Rattle.std.proofs.lemmas.Bool.{lt-leb}
+use denote.Ref.{Bor}
+use Rattle.laws.specs.Choice.{also, also_left, also_right, also_both, also_false}
 use Rattle.laws.specs.Fold.{same}
 use Rattle.words.specs.Place.{place, is_blank, not_blank}
 use Rattle.words.specs.declared.Word.{Word}
@@ -49,3 +53,15 @@ says_in line word w e h q = q ∙ ap (λ (x : Bool). also x (same (bytes_of line
 pub says_out : (line word : List ℕ) (w : Word) {b : Bool} → b ≡ lies w (length line) → b ≡ false → false ≡ says line w word
 unfolding says also
 says_out line word w e h = ap (λ (x : Bool). also x (same (bytes_of line w) word)) (sym h ∙ e)
+
+-- what the library lends of the line from one place up to another: its bytes, where it lies there
+pub bytes_lent : (line : List ℕ) (w : Word) (r : code.Option (Bor (List ℕ))) → PartBy (λ (b : Bor (List ℕ)). b.now) line w.from w.to r
+    → MatchOption r (lies w (length line) ≡ false) (λ (b : Bor (List ℕ)). (lies w (length line) ≡ true) × (b.now ≡ bytes_of line w))
+unfolding lies bytes_of also
+bytes_lent line w None p =
+    ⊎_elim
+    (λ h. ap (λ (b : Bool). also b (leb w.to (length line))) (lt-leb w.from w.to h))
+    (λ h. ap (also (leb w.from w.to)) (lt-leb w.to (length line) h) ∙ also_false (leb w.from w.to))
+    p.0
+bytes_lent line w (Some b) p =
+    (also_both _ _ (le-leb w.from w.to p.0.0) (le-leb w.to (length line) p.0.1), p.0.2)

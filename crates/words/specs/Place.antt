@@ -1,11 +1,12 @@
 -- Places in a line: the first byte from a place on that meets a test. A loop that looks for it speaks of what is left; the byte that
 -- meets the test, the next turn and the end are a law each. Assumes nothing.
-use Rattle.std.specs.Prelude.{ℕ, ◌+◌, ◌≤◌, ◌<◌, Bool, true, false, cond, not, ◌≡◌, eqb, length, take, drop, get_or}
-use Rattle.std.proofs.Common.{sym, ◌∙◌, get_or-take}
+use Rattle.std.specs.Prelude.{ℕ, suc, ◌+◌, ◌≤◌, ◌<◌, Bool, true, false, cond, not, ◌≡◌, refl, eqb, ltb, length, take, drop, get_or, Some, None}
+use Rattle.std.specs.List.{position_or_len}
+use Rattle.std.proofs.Common.{sym, ◌∙◌, get_or-take, add-zero, lt-ltb, arith}
 use Rattle.std.proofs.Math.Path.{ap}
 use mathlib.Core.List.{List, [], ◌∷◌}
 use borrow.Author.Tests.{eq-eqb, ne_eqb}
-use Rattle.laws.specs.Choice.{either}
+use Rattle.laws.specs.Choice.{either, leb_same, ruin}
 use Rattle.laws.specs.Part.{drop_step, drop_end}
 
 -- the place of the first element that meets the test, where the list begins at place `at`; `none` where no element does
@@ -58,3 +59,39 @@ module _ (stop end i : ℕ) (xs : List ℕ) (h : i < end) where
 pub blank_told : (c : ℕ) (b r : Bool) → b ≡ is_blank c → not b ≡ r → not_blank c ≡ r
 unfolding not_blank
 blank_told c b r e h = ap not (sym e) ∙ h
+
+-- the place from what the library finds behind `from`
+module _ (p : ℕ → Bool) where
+  first_found : (xs : List ℕ) (from none : ℕ) → first_from p xs from none ≡ cond (ltb (position_or_len p xs) (length xs)) (from + position_or_len p xs) none
+  unfolding first_from
+  first_found [] from none = refl
+  first_found (x ∷ xs) from none = go (p x) (first_found xs (from + 1) none)
+    where
+      go : (b : Bool) → first_from p xs (from + 1) none ≡ cond (ltb (position_or_len p xs) (length xs)) (from + 1 + position_or_len p xs) none
+          → cond b from (first_from p xs (from + 1) none)
+          ≡ cond (ltb (cond (not b) (1 + position_or_len p xs) 0) (suc (length xs))) (from + cond (not b) (1 + position_or_len p xs) 0) none
+      go true e = sym (simp (lt-ltb 0 (suc (length xs)) (omega arith)) (add-zero from))
+      go false e =
+          let q : ltb (1 + position_or_len p xs) (suc (length xs)) ≡ ltb (position_or_len p xs) (length xs) =
+          leb_same (suc (1 + position_or_len p xs)) (suc (length xs)) (suc (position_or_len p xs)) (length xs) (omega arith) (omega arith) in
+          let s : from + 1 + position_or_len p xs ≡ from + (1 + position_or_len p xs) = omega arith in
+          e ∙ (λ i. cond (sym q i) (s i) none)
+
+  found_some : (b : Bool) (n from none i : ℕ) → cond b (Some n) None ≡ Some i → from + i ≡ cond b (from + n) none
+  found_some true n from none i e = let k : i ≡ n = cc in ap (λ (m : ℕ). from + m) k
+  found_some false n from none i e = ruin (cc)
+
+  found_none : (b : Bool) (n from none : ℕ) → cond b (Some n) None ≡ None → none ≡ cond b (from + n) none
+  found_none true n from none e = ruin (cc)
+  found_none false n from none e = refl
+
+  module _ (line part : List ℕ) (from none : ℕ) (e : part ≡ drop from line) where
+    part_place : first_from p part from none ≡ place p line from none
+    unfolding place
+    part_place = ap (λ (xs : List ℕ). first_from p xs from none) e
+
+    pub place_some : (i : ℕ) → Some i ≡ cond (ltb (position_or_len p part) (length part)) (Some (position_or_len p part)) None → from + i ≡ place p line from none
+    place_some i h = found_some (ltb (position_or_len p part) (length part)) (position_or_len p part) from none i (sym h) ∙ sym (first_found part from none) ∙ part_place
+
+    pub place_nowhere : None ≡ cond (ltb (position_or_len p part) (length part)) (Some (position_or_len p part)) None → none ≡ place p line from none
+    place_nowhere h = found_none (ltb (position_or_len p part) (length part)) (position_or_len p part) from none (sym h) ∙ sym (first_found part from none) ∙ part_place

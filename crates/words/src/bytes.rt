@@ -5,8 +5,7 @@ ghost use Rattle.laws.specs.Fold.{every};
 ghost use Rattle.laws.specs.Splice.{splice};
 ghost use Rattle.words.specs.Hex.{nibble_of, is_hex, bytes, fits, Fits, count_of, written, hex_count, hex_written};
 
-use super::words::lies_in;
-use super::{Parsed, Word};
+use super::Word;
 
 // The value of a hexadecimal digit of either case, or 16.
 fn nibble(c: u8) -> u8
@@ -30,24 +29,10 @@ fn byte(high: u8, low: u8) -> u8
     h * 16 + l
 }
 
-fn and_digit(ok: bool, c: u8) -> bool
-    ensures { result ≡ also ok (is_hex c) }
-{
-    let n = nibble(c);
-    let digit = n < 16;
-    ok & digit
-}
-
 fn all_digits(digits: &[u8]) -> bool
     ensures { result ≡ every is_hex digits.now }
 {
-    let mut ok = true;
-    let mut i = 0;
-    while i < digits.len() {
-        ok = and_digit(ok, digits[i]);
-        i += 1;
-    }
-    ok
+    digits.iter().all(|c| nibble(*c) < 16)
 }
 
 // Is there room for `count` bytes from a place on, in `len` of them?
@@ -73,38 +58,30 @@ fn write(digits: &[u8], out: &mut [u8], at: usize)
     requires { Fits digits.now (length out.old) at }
     ensures { out.new ≡ splice out.old at (bytes digits.now) }
 {
-    let count = digits.len() / 2;
-    let mut j = 0;
-    while j < count {
+    for j in 0..digits.len() / 2 {
         out[at + j] = byte(digits[j * 2], digits[j * 2 + 1]);
-        j += 1;
     }
 }
 
 // Pairs of digits into `out`, after a look at all of them.
-fn put(digits: &[u8], out: &mut [u8], at: usize) -> Parsed
+fn put(digits: &[u8], out: &mut [u8], at: usize) -> Option<u64>
     ensures value { result ≡ count_of digits.now (length out.old) at }
     ensures out_after { out.new ≡ written digits.now out.old at }
 {
     let ok = can_write(digits, out.len(), at);
     if ok {
         write(digits, out, at);
-        return Parsed::Is((digits.len() / 2) as u64);
+        return Some((digits.len() / 2) as u64);
     }
-    Parsed::Not
+    None
 }
 
 // Pairs of hexadecimal digits into `out` from a place on: how many bytes. Not, with `out` as it was, where a digit isn't one or has no
 // partner, or where `out` has no room.
-pub fn hex(line: &[u8], w: Word, out: &mut [u8], at: usize) -> Parsed
+pub fn hex(line: &[u8], w: Word, out: &mut [u8], at: usize) -> Option<u64>
     ensures value { result ≡ hex_count line.now w (length out.old) at }
     ensures out_after { out.new ≡ hex_written line.now w out.old at }
 {
-    let from = w.from;
-    let to = w.to;
-    let ok = lies_in(w, line.len());
-    if ok {
-        return put(&line[from..to], out, at);
-    }
-    Parsed::Not
+    let digits = w.bytes(line)?;
+    put(digits, out, at)
 }

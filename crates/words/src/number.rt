@@ -2,55 +2,36 @@
 ghost use Rattle.std.specs.Prelude.{◌≡◌};
 ghost use Rattle.words.specs.Decimal.{decimal_of, number_of, one_more};
 
-use super::words::lies_in;
-use super::{Parsed, Word};
+use super::Word;
 
 // One decimal digit more; the largest number is 18,446,744,073,709,551,615.
-fn one_more(v: u64, c: u8) -> Parsed
+fn one_more(v: u64, c: u8) -> Option<u64>
     ensures { result ≡ one_more v c }
 {
-    if c < 48 {
-        return Parsed::Not;
+    if !c.is_ascii_digit() {
+        return None;
     }
-    if 57 < c {
-        return Parsed::Not;
-    }
-    let d = (c - 48) as u64;
-    if (u64::MAX - d) / 10 < v {
-        return Parsed::Not;
-    }
-    Parsed::Is(v * 10 + d)
+    v.checked_mul(10)?.checked_add(u64::from(c - 48))
 }
 
 // The number that decimal digits say.
-fn number(digits: &[u8]) -> Parsed
+fn number(digits: &[u8]) -> Option<u64>
     ensures { result ≡ number_of digits.now }
 {
-    if digits.len() == 0 {
-        return Parsed::Not;
+    if digits.is_empty() {
+        return None;
     }
     let mut v = 0;
-    let mut i = 0;
-    while i < digits.len() {
-        let n = one_more(v, digits[i]);
-        let Parsed::Is(w) = n else {
-            return Parsed::Not;
-        };
-        v = w;
-        i += 1;
+    for &c in digits {
+        v = one_more(v, c)?;
     }
-    Parsed::Is(v)
+    Some(v)
 }
 
 // A decimal number of 64 bits: one digit or more, and nothing else.
-pub fn decimal(line: &[u8], w: Word) -> Parsed
+pub fn decimal(line: &[u8], w: Word) -> Option<u64>
     ensures { result ≡ decimal_of line.now w }
 {
-    let from = w.from;
-    let to = w.to;
-    let ok = lies_in(w, line.len());
-    if ok {
-        return number(&line[from..to]);
-    }
-    Parsed::Not
+    let digits = w.bytes(line)?;
+    number(digits)
 }

@@ -1,6 +1,6 @@
 // Words of a line.
-ghost use Rattle.std.specs.Prelude.{◌≡◌};
-ghost use Rattle.words.specs.Line.{lies, says, word_at, is_none};
+ghost use Rattle.std.specs.Prelude.{◌≡◌, true, false, length, MatchOption};
+ghost use Rattle.words.specs.Line.{lies, bytes_of, says, word_at, is_none};
 
 use super::Word;
 use super::place::{word_end, word_start};
@@ -11,6 +11,13 @@ impl Word {
         ensures { result ≡ is_none self }
     {
         self.to <= self.from
+    }
+
+    // Its bytes, where it lies in the line.
+    pub(crate) fn bytes(self, line: &[u8]) -> Option<&[u8]>
+        ensures { MatchOption result (lies self (length line.now) ≡ false) (λ b. (lies self (length line.now) ≡ true) × (b.now ≡ bytes_of line.now self)) }
+    {
+        line.get(self.from..self.to)
     }
 }
 
@@ -23,25 +30,12 @@ pub fn next_word(line: &[u8], at: usize) -> Word
     Word { from, to }
 }
 
-// Does the word lie in a line of so many bytes?
-pub(crate) fn lies_in(w: Word, len: usize) -> bool
-    ensures { result ≡ lies w len }
-{
-    if w.to < w.from {
-        return false;
-    }
-    w.to <= len
-}
-
 // Is the word this one?
 pub fn is(line: &[u8], w: Word, word: &[u8]) -> bool
     ensures { result ≡ says line.now w word.now }
 {
-    let from = w.from;
-    let to = w.to;
-    let ok = lies_in(w, line.len());
-    if ok {
-        return runs::same_bytes(&line[from..to], word);
+    match w.bytes(line) {
+        Some(bytes) => bytes == word,
+        None => false,
     }
-    false
 }

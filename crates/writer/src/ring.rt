@@ -1,37 +1,37 @@
 // A range into the journal's ring, run by run: the head, the lengths, the bodies, the padding. Each run is cut where the ring ends.
 ghost use Rattle.std.specs.Prelude.{◌≡◌, ◌+◌, ◌*◌, ◌≤◌};
+ghost use Rattle.refusal.specs.Refusal.{asked, ok_unless};
 ghost use Rattle.laws.specs.Choice.{ask, unless};
 ghost use Rattle.laws.specs.Ring.{wrap};
 ghost use Rattle.laws.specs.Around.{splice_around};
 ghost use Rattle.range.specs.Form.{block_size, length_width, blocks, encode};
 ghost use Rattle.range.specs.Memory.{view, range_from};
 ghost use Rattle.range.specs.Runs.{head};
-ghost use Rattle.writer.specs.Answer.{written};
 ghost use Rattle.writer.specs.Ring.{journal_ok, ask_write, put_ok, put_range, Puts};
 
-use super::Written;
-use super::size::{Sized, size_of_range};
+use super::size::size_of_range;
 use layout::Geometry;
 use numbers::put_number;
 use range::{BLOCK_SIZE, HEAD_SIZE, MOST_ENTRIES, blocks_of};
-use runs::{fill_around, narrow_around, write_bytes_around};
+use refusal::Refusal;
+use runs::{fill_around, narrow_around, write_around};
 
 const MOST_BLOCKS: usize = Geometry::MOST_BLOCKS as usize;
 
 // Question 1: is a journal of so many bytes from 1 to 4,096 whole blocks?
-fn ask_journal(len: usize) -> u8
-    ensures { result ≡ ask 1 (journal_ok len) }
+fn ask_journal(len: usize) -> Result<(), Refusal>
+    ensures { result ≡ asked (ask 1 (journal_ok len)) }
 {
     if len % BLOCK_SIZE != 0 {
-        return 1;
+        return Err(Refusal::Sizes);
     }
     if len / BLOCK_SIZE < 1 {
-        return 1;
+        return Err(Refusal::Sizes);
     }
     if MOST_BLOCKS < len / BLOCK_SIZE {
-        return 1;
+        return Err(Refusal::Sizes);
     }
-    0
+    Ok(())
 }
 
 // A place on the ring, from a number below twice its length.
@@ -81,9 +81,9 @@ fn put(
     let bodies_at = lengths_at + n;
     let padding_at = wrapped(journal.len(), bodies_at + bodies);
     let zeros = zeros_behind(HEAD_SIZE + n + bodies, blocks);
-    write_bytes_around(&head[0..HEAD_SIZE], journal, at);
+    write_around(&head[0..HEAD_SIZE], journal, at);
     narrow_around(&lens[0..n], journal, lengths_at);
-    write_bytes_around(&bytes[0..bodies], journal, bodies_at);
+    write_around(&bytes[0..bodies], journal, bodies_at);
     fill_around(0, zeros, journal, padding_at);
 }
 
@@ -129,25 +129,25 @@ pub fn put_range(bytes: &[u8], lens: &[u16], n: u64, bodies: u64, journal: &mut 
 }
 
 // The range of the first n entries, written from block `start` on.
-pub fn write_range(bytes: &[u8], lens: &[u16], n: u64, journal: &mut [u8], start: u64) -> Written
-    ensures value { result ≡ written (ask_write bytes.now lens.now n journal.old start) (blocks (view bytes.now lens.now n)) }
+pub fn write_range(
+    bytes: &[u8],
+    lens: &[u16],
+    n: u64,
+    journal: &mut [u8],
+    start: u64,
+) -> Result<u64, Refusal>
+    ensures value { result ≡ ok_unless (ask_write bytes.now lens.now n journal.old start) (blocks (view bytes.now lens.now n)) }
     ensures journal_after { journal.new ≡ unless (ask_write bytes.now lens.now n journal.old start) journal.old (splice_around journal.old (start * block_size) (encode (view bytes.now lens.now n))) }
 {
-    let q = ask_journal(journal.len());
-    if q != 0 {
-        return Written::Refused(q);
-    }
+    ask_journal(journal.len())?;
     let all = (journal.len() / BLOCK_SIZE) as u64;
     if all <= start {
-        return Written::Refused(4);
+        return Err(Refusal::Argument);
     }
-    let s = size_of_range(bytes, lens, n);
-    let Sized::Range { bodies, blocks } = s else {
-        return Written::Refused(4);
-    };
-    if all < blocks {
-        return Written::Refused(8);
+    let size = size_of_range(bytes, lens, n)?;
+    if all < size.blocks {
+        return Err(Refusal::Room);
     }
-    put_range(bytes, lens, n, bodies, journal, start);
-    Written::Blocks(blocks)
+    put_range(bytes, lens, n, size.bodies, journal, start);
+    Ok(size.blocks)
 }

@@ -1,10 +1,10 @@
 -- A step of its own name is the step over all calls: the same answer, and the same lent memory after it, whatever else a call brings. So what is
 -- shown of the step over all calls holds of each method of the store.
+use Rattle.std.specs.declared.option.Option as code
 use Rattle.std.specs.Prelude.{ℕ, Bool, ◌≡◌, refl}
 use Rattle.laws.specs.Choice.{and_then, unless, unless_same}
 use Rattle.layout.specs.declared.Geometry.{Geometry}
 use Rattle.layout.specs.declared.Location.{Location}
-use Rattle.superblock.specs.declared.MaybeId.{MaybeId}
 use Rattle.store.specs.declared.Store.{Store}
 use Rattle.store.specs.declared.StoreStepped.{StoreStepped}
 use Rattle.store.specs.Lent.{Lent, ask_store}

@@ -2,7 +2,7 @@
 -- picture which is the memory itself changes nothing.
 use Rattle.std.specs.Prelude.{ℕ, ◌+◌, ◌*◌, ◌/◌, ◌≤◌, ◌<◌, min, Bool, true, false, cond, ◌≡◌, length, drop, get_or}
 use Rattle.std.proofs.Math.Path.{sym, ap}
-use Rattle.std.proofs.Common.{◌∙◌, arith}
+use Rattle.std.proofs.Common.{◌∙◌, arith, take_all}
 use mathlib.Core.List.{List}
 use Rattle.std.proofs.Math.Option.{none, some}
 use Rattle.std.proofs.Math.ListN.{take}
@@ -60,16 +60,18 @@ module _ (vs : List JournalInterval) (new old : List ℕ) (i : ℕ) (d : Journal
 
 module _ (t : IntervalTable) (new old : List ℕ) where
   -- after the last row: as many as are in use and the array has
-  module _ (i size : ℕ) (l : length t.intervals ≡ size) (e : i ≡ min t.count size) where
-    rows_end : (at : ℕ → ℕ) → after_rows at t.intervals i new old ≡ picked (λ p. covered t (at p)) new old
+  module _ (n i size : ℕ) (l : length t.intervals ≡ size) (e : n ≡ min t.count size) (k : length (take n t.intervals) ≤ i) where
+    rows_end : (at : ℕ → ℕ) → after_rows at (take n t.intervals) i new old ≡ picked (λ p. covered t (at p)) new old
     unfolding after_rows covered
-    rows_end at = ap (λ (vs : List JournalInterval). picked (λ p. in_rows vs (at p)) new old) (ap (λ (n : ℕ). take n t.intervals) e ∙ take_min t.intervals t.count size l)
+    rows_end at =
+        ap (λ (vs : List JournalInterval). picked (λ p. in_rows vs (at p)) new old)
+        (take_all i (take n t.intervals) k ∙ ap (λ (m : ℕ). take m t.intervals) e ∙ take_min t.intervals t.count size l)
 
-    pub blocks_end : blocks_after t.intervals i new old ≡ crashed_blocks t new old
+    pub blocks_end : blocks_after (take n t.intervals) i new old ≡ crashed_blocks t new old
     unfolding crashed_blocks
     blocks_end = rows_end (λ p. p / 4096)
 
-    pub marks_end : marks_after t.intervals i new old ≡ crashed_marks t new old
+    pub marks_end : marks_after (take n t.intervals) i new old ≡ crashed_marks t new old
     unfolding crashed_marks
     marks_end = rows_end (λ p. p)
 

@@ -14,7 +14,7 @@ use Rattle.tables.specs.declared.IntervalTable.{IntervalTable}
 use Rattle.tables.specs.Rows.{Counted}
 use Rattle.tables.specs.IntervalTable.{interval_map, no_intervals}
 use Rattle.tables.proofs.Laws.IntervalTables.{intervals_empty, sized_no_intervals, facts_valid}
-use Rattle.requests.specs.declared.Slots.{Slots}
+use Rattle.requests.specs.Slots.{Slots}
 use Rattle.disk.specs.declared.Disk.{Disk}
 use Rattle.disk.specs.Disk.{idle_disk}
 use Rattle.disk.specs.Questions.{ask_state, ask_disk}

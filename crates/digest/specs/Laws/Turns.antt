@@ -1,5 +1,5 @@
--- Turns of the loops that take bytes, digits, lengths and blocks: what was left is taken by what the turn has made; and each loop's end.
-use Prim.Native.Nat.{ℕ, suc, ◌+◌, ◌-◌, ◌/◌, ◌%◌, ◌≤◌, ◌<◌, min}
+-- Turns of the loops that take bytes, lengths and blocks: what was left is taken by what the turn has made; and each loop's end.
+use Prim.Native.Nat.{ℕ, ◌+◌, ◌*◌, ◌≤◌, ◌<◌, min}
 use Rattle.std.specs.Prelude.{◌≡◌, length, get_or}
 use Rattle.std.proofs.Math.Path.{refl, sym, ap}
 use Rattle.std.proofs.Common.{◌∙◌, drop-drop}
@@ -7,7 +7,6 @@ use mathlib.Core.List.{List}
 use native.Mathlib.Omega.{arith}
 use Rattle.std.proofs.Math.ListN.{drop}
 use Rattle.laws.specs.Part.{drop_step, drop_end, drop_min}
-use Rattle.laws.specs.Digits.{digits}
 use Rattle.laws.specs.LowFirst.{low_first, each_low}
 use Rattle.digest.specs.Take.{take_byte, takes}
 use Rattle.digest.specs.Visible.{marked_bytes, journal_bytes}
@@ -34,21 +33,6 @@ module _ (xs : List ℕ) {n : ℕ} where
   unfolding takes
   byte_end i v h e = sym (ap (takes v) (drop_end xs i h)) ∙ e
 
--- a number's eight bytes
-module _ {n : ℕ} where
-  pub number_turn : (i left v w : ℕ) → i < 8 → takes v (digits 256 (8 - i) left) ≡ n → w ≡ take_byte v (left % 256)
-      → takes w (digits 256 (8 - (i + 1)) (left / 256)) ≡ n
-  unfolding takes digits
-  number_turn i left v w h e q =
-      let k : 8 - i ≡ suc (8 - (i + 1)) = omega arith in
-      ap (λ (m : ℕ). takes m (digits 256 (8 - (i + 1)) (left / 256))) q ∙ sym (ap (λ (m : ℕ). takes v (digits 256 m left)) k) ∙ e
-
-  pub number_end : (i left v : ℕ) → 8 ≤ i → takes v (digits 256 (8 - i) left) ≡ n → v ≡ n
-  unfolding takes digits
-  number_end i left v h e =
-      let k : 8 - i ≡ 0 = omega arith in
-      sym (ap (λ (m : ℕ). takes v (digits 256 m left)) k) ∙ e
-
 -- lengths
 module _ (xs : List ℕ) {n : ℕ} where
   pub length_turn : (i v w : ℕ) → i < length xs → takes v (each_low 2 (drop i xs)) ≡ n → w ≡ takes v (low_first 2 (get_or xs i 0))
@@ -66,18 +50,20 @@ module _ (xs : List ℕ) {n : ℕ} where
 
 -- blocks: the next lie one block further, or none are left
 module _ (blocks marks : List ℕ) {n : ℕ} where
-  pub block_turn : (i at next v w : ℕ) → i < length marks → takes v (journal_bytes (drop at blocks) (drop i marks)) ≡ n
-      → w ≡ takes v (marked_bytes (get_or marks i 0) (drop at blocks)) → next ≡ min (at + 4096) (length blocks)
-      → takes w (journal_bytes (drop next blocks) (drop (i + 1) marks)) ≡ n
+  pub block_turn : (i at v w : ℕ) → i < length marks → takes v (journal_bytes (drop (i * 4096) blocks) (drop i marks)) ≡ n
+      → at ≡ min (i * 4096) (length blocks) → w ≡ takes v (marked_bytes (get_or marks i 0) (drop at blocks))
+      → takes w (journal_bytes (drop ((i + 1) * 4096) blocks) (drop (i + 1) marks)) ≡ n
   unfolding journal_bytes
-  block_turn i at next v w h e q k =
-      let further : drop next blocks ≡ drop 4096 (drop at blocks) =
-      ap (λ (m : ℕ). drop m blocks) k ∙ drop_min blocks (at + 4096) (length blocks) refl ∙ sym (drop-drop 4096 at blocks) in
-      (λ j. takes (q j) (journal_bytes (further j) (drop (i + 1) marks)))
-      ∙ sym (takes_append v (marked_bytes (get_or marks i 0) (drop at blocks)) (journal_bytes (drop 4096 (drop at blocks)) (drop (i + 1) marks)))
-      ∙ sym (ap (λ (ys : List ℕ). takes v (journal_bytes (drop at blocks) ys)) (drop_step marks i 0 h))
+  block_turn i at v w h e k q =
+      let here : drop at blocks ≡ drop (i * 4096) blocks = ap (λ (m : ℕ). drop m blocks) k ∙ drop_min blocks (i * 4096) (length blocks) refl in
+      let place : (i + 1) * 4096 ≡ i * 4096 + 4096 = omega arith in
+      let further : drop ((i + 1) * 4096) blocks ≡ drop 4096 (drop (i * 4096) blocks) =
+      ap (λ (m : ℕ). drop m blocks) place ∙ sym (drop-drop 4096 (i * 4096) blocks) in
+      (λ j. takes ((q ∙ ap (λ (ys : List ℕ). takes v (marked_bytes (get_or marks i 0) ys)) here) j) (journal_bytes (further j) (drop (i + 1) marks)))
+      ∙ sym (takes_append v (marked_bytes (get_or marks i 0) (drop (i * 4096) blocks)) (journal_bytes (drop 4096 (drop (i * 4096) blocks)) (drop (i + 1) marks)))
+      ∙ sym (ap (λ (ys : List ℕ). takes v (journal_bytes (drop (i * 4096) blocks) ys)) (drop_step marks i 0 h))
       ∙ e
 
-  pub block_end : (i at v : ℕ) → length marks ≤ i → takes v (journal_bytes (drop at blocks) (drop i marks)) ≡ n → v ≡ n
+  pub block_end : (i v : ℕ) → length marks ≤ i → takes v (journal_bytes (drop (i * 4096) blocks) (drop i marks)) ≡ n → v ≡ n
   unfolding takes journal_bytes
-  block_end i at v h e = sym (ap (λ (ys : List ℕ). takes v (journal_bytes (drop at blocks) ys)) (drop_end marks i h)) ∙ e
+  block_end i v h e = sym (ap (λ (ys : List ℕ). takes v (journal_bytes (drop (i * 4096) blocks) ys)) (drop_end marks i h)) ∙ e

@@ -1,18 +1,18 @@
 -- The operations that touch lent blocks: what a yes to a journal write's questions tells, and back, and the buffer after a read's answer.
+use Rattle.std.specs.declared.option.Option as code
 use Rattle.std.specs.Prelude.{ℕ, ◌*◌, true, false, ◌≡◌, List, length}
 use Rattle.std.proofs.Math.Path.{refl}
 use Rattle.std.proofs.Common.{◌∙◌}
 use Rattle.laws.specs.Choice.{and_then_left, and_then_right, and_then_both, and_then_done}
 use Rattle.layout.specs.declared.Geometry.{Geometry}
 use Rattle.interval.specs.declared.JournalInterval.{JournalInterval}
-use Rattle.superblock.specs.declared.MaybeId.{MaybeId}
 use Rattle.journal.specs.Memory.{ask_size, copy_blocks}
 use Rattle.journal.specs.Asked.{size_asked, asked_size}
 use Rattle.tables.specs.declared.IntervalTable.{IntervalTable}
 use Rattle.requests.specs.Receive.{ask_recv_write_journal}
 use Rattle.disk.specs.Memory.{ask_new_blocks, read_out}
 
-module _ (g : Geometry) (t : IntervalTable) (id1 : ℕ) (id2 : MaybeId) (v : JournalInterval) (new : List ℕ) where
+module _ (g : Geometry) (t : IntervalTable) (id1 : ℕ) (id2 : code.Option ℕ) (v : JournalInterval) (new : List ℕ) where
   pub new_blocks_size : ask_new_blocks g t id1 id2 v new ≡ 0 → length new ≡ v.len * 4096
   unfolding ask_new_blocks
   new_blocks_size e = size_asked v new (and_then_left (ask_size v new) (ask_recv_write_journal g t id1 id2 v) e)

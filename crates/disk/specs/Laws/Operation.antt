@@ -1,20 +1,19 @@
 -- What an operation says of a journal read, whole or damaged, and what it touches of lent blocks.
+use Rattle.std.specs.declared.option.Option as code
 use Rattle.std.specs.Prelude.{ℕ, true, false, ◌≡◌, List, ◌⊎◌}
 use Rattle.std.proofs.Math.Path.{refl}
 use Rattle.std.proofs.Common.{◌∙◌, ap, inl, inr, ⊎_elim}
 use Rattle.laws.specs.Choice.{unless, unless_same, ruin}
 use Rattle.layout.specs.declared.Geometry.{Geometry}
 use Rattle.interval.specs.declared.JournalInterval.{JournalInterval}
-use Rattle.superblock.specs.declared.MaybeId.{MaybeId}
 use Rattle.superblock.specs.declared.DiskOp.{DiskOp}
 use Rattle.superblock.specs.declared.DiskOp.TheVariants as op
 use Rattle.superblock.specs.declared.JournalRead.{JournalRead}
 use Rattle.superblock.specs.declared.JournalRead.TheVariants as read
 use Rattle.disk.specs.declared.Disk.{Disk}
-use Rattle.disk.specs.declared.DiskStepped.{DiskStepped}
 use Rattle.disk.specs.declared.Touched.{Touched}
 use Rattle.disk.specs.declared.Touched.TheVariants as touched
-use Rattle.disk.specs.Disk.{answered}
+use Rattle.disk.specs.Disk.{DiskStepped, answered}
 use Rattle.disk.specs.Operation.{is_whole, touched_by, ask_operation, ask_decision, operation_next, operation_blocks, operation_marks, operation_out}
 
 pub whole_is : is_whole read.Whole ≡ true
@@ -44,7 +43,7 @@ told (op.RespWriteJournal id) = inr refl
 told op.NoDiskOp = inr refl
 
 module _ (o : DiskOp) where
-  pub written_is : (id1 : ℕ) (id2 : MaybeId) (v : JournalInterval) → touched_by o ≡ touched.Written id1 id2 v → o ≡ op.ReqWriteJournal id1 id2 v.start v.len
+  pub written_is : (id1 : ℕ) (id2 : code.Option ℕ) (v : JournalInterval) → touched_by o ≡ touched.Written id1 id2 v → o ≡ op.ReqWriteJournal id1 id2 v.start v.len
   written_is id1 id2 v h = ⊎_elim (λ e. e ∙ ap touching h) (λ n. ruin (cc)) (told o)
 
   pub read_is : (id : ℕ) (journal : JournalRead) → touched_by o ≡ touched.Read id journal → o ≡ op.RespReadJournal id journal

@@ -1,5 +1,6 @@
 -- Loading the journal: what each test of a piece tells, question 2's test as facts, what a yes to each step's questions tells, what an answer
 -- does by which piece awaits it, and how many blocks the pieces have; a law each way.
+use Rattle.std.specs.declared.option.Option as code
 use Rattle.std.specs.Prelude.{ℕ, ◌+◌, ◌≤◌, ◌<◌, Bool, true, false, not, ◌≡◌, refl}
 use Rattle.std.proofs.Common.{sym, ◌∙◌, arith}
 use Rattle.std.proofs.Math.Path.{ap}
@@ -9,8 +10,7 @@ use Rattle.laws.specs.Choice.{also, ruin, false_true, not_so, split_bool, also_l
 use Rattle.laws.specs.Sets.{none_some}
 use Rattle.layout.specs.declared.Geometry.{Geometry}
 use Rattle.interval.specs.declared.JournalInterval.{JournalInterval}
-use Rattle.interval.specs.declared.MaybeInterval.{MaybeInterval}
-use Rattle.interval.specs.Answer.{maybe_interval}
+use Rattle.laws.specs.Optional.{optional}
 use Rattle.interval.specs.Interval.{interval}
 use Rattle.interval.proofs.Laws.{len_of, parts_none, parts_straight, parts_wrapped, parts_cases, parts_fit}
 use Rattle.superblock.specs.declared.Superblock.{Superblock}
@@ -25,7 +25,7 @@ use Rattle.loading.specs.Other.{front_of, back_of, front_blocks, back_blocks, pi
 use Rattle.loading.specs.Laws.Which.{which_asked, asked_which, not_true, true_not}
 
 -- question 2's test of the pieces, from its parts
-pub pieces_ok_is : (g : Geometry) (o : LoadingOther) (first second : MaybeInterval) (a b c : Bool) → first ≡ front_of g o.superblock → second ≡ back_of g o.superblock
+pub pieces_ok_is : (g : Geometry) (o : LoadingOther) (first second : code.Option JournalInterval) (a b c : Bool) → first ≡ front_of g o.superblock → second ≡ back_of g o.superblock
     → a ≡ piece_interval o.front first → b ≡ piece_interval o.back second → c ≡ piece_reads_differ o.front o.back → also (also a b) c ≡ pieces_ok g o
 unfolding pieces_ok
 pieces_ok_is g o first second a b c hf hb ha hd hc =
@@ -59,41 +59,41 @@ apart_differ piece.In b f = refl
 abbrev pub There : Option JournalInterval → Type 0
 There o = (v : JournalInterval) × (o ≡ some v)
 
-pub there_is : (o : Option JournalInterval) → is_there (maybe_interval o) ≡ true → There o
+pub there_is : (o : Option JournalInterval) → is_there (optional o) ≡ true → There o
 there_is none e = false_true e
 there_is (some v) e = (v, refl)
 
-pub is_there_is : (o : Option JournalInterval) → There o → is_there (maybe_interval o) ≡ true
-is_there_is o h = ap (λ (x : Option JournalInterval). is_there (maybe_interval x)) h.1
+pub is_there_is : (o : Option JournalInterval) → There o → is_there (optional o) ≡ true
+is_there_is o h = ap (λ (x : Option JournalInterval). is_there (optional x)) h.1
 
-pub interval_facts : (p : Piece) (o : Option JournalInterval) → piece_interval p (maybe_interval o) ≡ true → (p ≡ piece.Unread → ⊥) → There o
+pub interval_facts : (p : Piece) (o : Option JournalInterval) → piece_interval p (optional o) ≡ true → (p ≡ piece.Unread → ⊥) → There o
 interval_facts piece.Unread o e f = absurd (f refl)
 interval_facts (piece.Reading id) o e f = there_is o e
 interval_facts piece.In o e f = there_is o e
 
-pub facts_interval : (p : Piece) (o : Option JournalInterval) → ((p ≡ piece.Unread → ⊥) → There o) → piece_interval p (maybe_interval o) ≡ true
+pub facts_interval : (p : Piece) (o : Option JournalInterval) → ((p ≡ piece.Unread → ⊥) → There o) → piece_interval p (optional o) ≡ true
 facts_interval piece.Unread o f = refl
 facts_interval (piece.Reading id) o f = is_there_is o (f (λ e. ruin (cc)))
 facts_interval piece.In o f = is_there_is o (f (λ e. ruin (cc)))
 
 -- its blocks
-len_is : (o : Option JournalInterval) → blocks_of (maybe_interval o) ≡ len_of o
+len_is : (o : Option JournalInterval) → blocks_of (optional o) ≡ len_of o
 len_is none = refl
 len_is (some v) = refl
 
 -- it is in where it is there
 
-no_none : (o : Option JournalInterval) → not (is_there (maybe_interval o)) ≡ true → {G : Type 0} → There o → G
-no_none o e h = absurd (not_true (is_there (maybe_interval o)) e (is_there_is o h))
+no_none : (o : Option JournalInterval) → not (is_there (optional o)) ≡ true → {G : Type 0} → There o → G
+no_none o e h = absurd (not_true (is_there (optional o)) e (is_there_is o h))
 
-pub loaded_in : (p : Piece) (o : Option JournalInterval) → piece_loaded p (maybe_interval o) ≡ true → There o → p ≡ piece.In
+pub loaded_in : (p : Piece) (o : Option JournalInterval) → piece_loaded p (optional o) ≡ true → There o → p ≡ piece.In
 loaded_in piece.Unread o e h = no_none o e h
 loaded_in (piece.Reading id) o e h = no_none o e h
 loaded_in piece.In o e h = refl
 
-pub in_loaded : (p : Piece) (o : Option JournalInterval) → (There o → p ≡ piece.In) → piece_loaded p (maybe_interval o) ≡ true
-in_loaded piece.Unread o f = true_not (is_there (maybe_interval o)) (λ e. ruin (cc (f (there_is o e))))
-in_loaded (piece.Reading id) o f = true_not (is_there (maybe_interval o)) (λ e. ruin (cc (f (there_is o e))))
+pub in_loaded : (p : Piece) (o : Option JournalInterval) → (There o → p ≡ piece.In) → piece_loaded p (optional o) ≡ true
+in_loaded piece.Unread o f = true_not (is_there (optional o)) (λ e. ruin (cc (f (there_is o e))))
+in_loaded (piece.Reading id) o f = true_not (is_there (optional o)) (λ e. ruin (cc (f (there_is o e))))
 in_loaded piece.In o f = refl
 
 -- Question 2
@@ -178,24 +178,24 @@ module _ (g : Geometry) (s : LoadingOther) (which : ℕ) where
   pub page_in_journal_req_asked : ask_page_in_journal_req g s which ≡ 0 → PageInJournalReqAsked g s which
   unfolding ask_page_in_journal_req
   page_in_journal_req_asked e =
-      let t = ask_yes 6 (also (is_there (maybe_interval (interval_at g s which))) (piece_unread (piece_at s which))) (omega arith) (and_then_right _ _ e) in
+      let t = ask_yes 6 (also (is_there (optional (interval_at g s which))) (piece_unread (piece_at s which))) (omega arith) (and_then_right _ _ e) in
       record {
         which_in = which_asked which (and_then_left _ _ e);
-        there = there_is (interval_at g s which) (also_left (is_there (maybe_interval (interval_at g s which))) (piece_unread (piece_at s which)) t);
-        unread = unread_is (piece_at s which) (also_right (is_there (maybe_interval (interval_at g s which))) (piece_unread (piece_at s which)) t);
+        there = there_is (interval_at g s which) (also_left (is_there (optional (interval_at g s which))) (piece_unread (piece_at s which)) t);
+        unread = unread_is (piece_at s which) (also_right (is_there (optional (interval_at g s which))) (piece_unread (piece_at s which)) t);
       }
 
   pub asked_page_in_journal_req : PageInJournalReqAsked g s which → ask_page_in_journal_req g s which ≡ 0
   unfolding ask_page_in_journal_req
   asked_page_in_journal_req a =
       and_then_both _ _ (asked_which which a.which_in)
-      (ask_holds 6 (also (is_there (maybe_interval (interval_at g s which))) (piece_unread (piece_at s which)))
-      (also_both (is_there (maybe_interval (interval_at g s which))) (piece_unread (piece_at s which)) (is_there_is (interval_at g s which) a.there) (ap piece_unread a.unread)))
+      (ask_holds 6 (also (is_there (optional (interval_at g s which))) (piece_unread (piece_at s which)))
+      (also_both (is_there (optional (interval_at g s which))) (piece_unread (piece_at s which)) (is_there_is (interval_at g s which) a.there) (ap piece_unread a.unread)))
 
   -- the interval that is asked for
   pub req_interval : (v : JournalInterval) → interval_at g s which ≡ some v → page_in_journal_req_interval g s which ≡ v
   unfolding page_in_journal_req_interval
-  req_interval v e = ap (λ (o : Option JournalInterval). interval_of (maybe_interval o)) e
+  req_interval v e = ap (λ (o : Option JournalInterval). interval_of (optional o)) e
 
 -- PageInJournalResp: the front piece takes the answer, or the back piece, or nobody does
 

@@ -1,5 +1,6 @@
 -- Loading the superblocks: what each test of a slot tells, question 2's test as facts, what a yes to each step's questions tells, and what an
 -- answer does; a law each way.
+use Rattle.std.specs.declared.option.Option as code
 use Rattle.std.specs.Prelude.{ℕ, ◌≤◌, Bool, true, false, not, ◌≡◌, refl}
 use Rattle.std.proofs.Math.Bool.{cond}
 use Rattle.std.proofs.Common.{sym, ◌∙◌, arith, eq-eqb, eqb-true}
@@ -7,7 +8,6 @@ use Rattle.std.proofs.Math.Path.{ap}
 use Rattle.laws.specs.Choice.{false_true, also_left, also_right, also_both, ask_yes, ask_holds, and_then_left, and_then_right, and_then_both}
 use Rattle.layout.specs.declared.Geometry.{Geometry}
 use Rattle.superblock.specs.declared.Superblock.{Superblock}
-use Rattle.superblock.specs.declared.SuperblockRead.{SuperblockRead}
 use Rattle.superblock.specs.Laws.{WFSuperblock, superblock_facts, facts_superblock}
 use Rattle.loading.specs.declared.SlotRead.{SlotRead}
 use Rattle.loading.specs.declared.SlotRead.TheVariants as slot
@@ -127,11 +127,11 @@ module _ (s : LoadingSuperblock) (which id : ℕ) where
   unfolding superblock_awaited
   is_superblock_awaited e = is_awaits (slot_at s which) id e
 
-  pub resp_awaited : (g : Geometry) (r : SuperblockRead) → superblock_awaited s which id ≡ true → page_in_superblock_resp_next g s which id r ≡ to_slot s which (slot_read g r)
+  pub resp_awaited : (g : Geometry) (r : code.Option Superblock) → superblock_awaited s which id ≡ true → page_in_superblock_resp_next g s which id r ≡ to_slot s which (slot_read g r)
   unfolding page_in_superblock_resp_next
   resp_awaited g r e = ap (λ (b : Bool). cond b (to_slot s which (slot_read g r)) s) e
 
-  pub resp_unawaited : (g : Geometry) (r : SuperblockRead) → superblock_awaited s which id ≡ false → page_in_superblock_resp_next g s which id r ≡ s
+  pub resp_unawaited : (g : Geometry) (r : code.Option Superblock) → superblock_awaited s which id ≡ false → page_in_superblock_resp_next g s which id r ≡ s
   unfolding page_in_superblock_resp_next
   resp_unawaited g r e = ap (λ (b : Bool). cond b (to_slot s which (slot_read g r)) s) e
 

@@ -1,4 +1,5 @@
 -- A step's questions as facts: what a yes tells, and that nothing more is asked.
+use Rattle.std.specs.declared.option.Option as code
 use Rattle.std.specs.Prelude.{ℕ, ◌+◌, ◌≤◌, ◌<◌, Bool, true, false, ◌≡◌, refl}
 use Rattle.std.proofs.Math.Bool.{not}
 use Rattle.std.proofs.Common.{ap, arith}
@@ -7,8 +8,7 @@ use Rattle.laws.specs.Choice.{also_left, also_right, also_both, and_then_left, a
 use Rattle.layout.specs.declared.Geometry.{Geometry}
 use Rattle.layout.specs.declared.Location.{Location}
 use Rattle.layout.specs.Laws.{ValidIndirectionTableLocation, table_location_facts, facts_table_location}
-use Rattle.superblock.specs.declared.MaybeId.{MaybeId}
-use Rattle.memory.specs.declared.Count.{Count}
+use Rattle.range.specs.declared.Count.{Count}
 use Rattle.memory.specs.declared.Limits.{Limits}
 use Rattle.ready.specs.declared.Bodies.{Bodies}
 use Rattle.ready.specs.declared.Ready.{Ready}
@@ -23,7 +23,7 @@ not_false true e = false_true e
 not_false false e = refl
 
 -- WriteBackJournalReq
-pub record MayWrite (g : Geometry) (r : Ready) (id1 : ℕ) (id2 : MaybeId) (b : Bodies) : Type 0 where
+pub record MayWrite (g : Geometry) (r : Ready) (id1 : ℕ) (id2 : code.Option ℕ) (b : Bodies) : Type 0 where
   pub no_commit_is : no_commit r.commit ≡ true
   pub some_pending : 0 < (sent r.entries b).entries
   pub start_in : r.superblock.journalStart < g.blocks
@@ -31,7 +31,7 @@ pub record MayWrite (g : Geometry) (r : Ready) (id1 : ℕ) (id2 : MaybeId) (b : 
   pub fits : sent_blocks r b + r.writtenJournalLen ≤ g.blocks
   pub ids_fit : ask_ids r.writes id1 id2 ≡ 0
 
-module _ (g : Geometry) (r : Ready) (id1 : ℕ) (id2 : MaybeId) (b : Bodies) where
+module _ (g : Geometry) (r : Ready) (id1 : ℕ) (id2 : code.Option ℕ) (b : Bodies) where
   pub write_asked : ask_write_back_journal_req g r id1 id2 b ≡ 0 → MayWrite g r id1 id2 b
   unfolding ask_write_back_journal_req may_write ask_room
   write_asked q =

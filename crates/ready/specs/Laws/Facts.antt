@@ -1,4 +1,6 @@
 -- Question 2's test as facts: part by part, and both ways.
+use Rattle.std.specs.Prelude.{None, Some}
+use Rattle.std.specs.declared.option.Option as code
 use Rattle.std.specs.Prelude.{ℕ, ◌+◌, ◌-◌, ◌≤◌, Bool, true, false, not, ◌≡◌, refl, ◌⊎◌, eqb}
 use Rattle.std.proofs.Common.{sym}
 use Rattle.std.proofs.Math.Logic.{inl, inr, ⊎_elim}
@@ -13,8 +15,6 @@ use Rattle.superblock.specs.Superblock.{increment_superblock_counter}
 use Rattle.superblock.specs.Laws.{WFSuperblock, superblock_facts, facts_superblock}
 use Rattle.tables.specs.Rows.{Counted}
 use Rattle.tables.proofs.Laws.Counts.{counted_facts, facts_counted}
-use Rattle.ready.specs.declared.MaybeLocation.{MaybeLocation}
-use Rattle.ready.specs.declared.MaybeLocation.TheVariants.{NoLocation, Received}
 use Rattle.ready.specs.declared.Frozen.{Frozen}
 use Rattle.ready.specs.declared.Commit.{Commit}
 use Rattle.ready.specs.declared.Commit.TheVariants.{CommitNone, CommitAdvanceLog, CommitAdvanceLocation}
@@ -86,23 +86,23 @@ pub record LocationIn (g : Geometry) (isFrozen : Bool) (loc : Location) : Type 0
   pub loc_valid : ValidIndirectionTableLocation g loc
   pub frozen : isFrozen ≡ true
 
-received_facts : (g : Geometry) (f : Frozen) → received_ok g f ≡ true → (loc : Location) → f.frozenLoc ≡ Received loc → LocationIn g f.isFrozen loc
+received_facts : (g : Geometry) (f : Frozen) → received_ok g f ≡ true → (loc : Location) → f.frozenLoc ≡ Some loc → LocationIn g f.isFrozen loc
 unfolding received_ok
 received_facts g f = go f.frozenLoc
   where
-    go : (m : MaybeLocation) → location_ok g f.isFrozen m ≡ true → (loc : Location) → m ≡ Received loc → LocationIn g f.isFrozen loc
-    go NoLocation e loc h = ruin (cc)
-    go (Received received) e loc h =
+    go : (m : code.Option Location) → location_ok g f.isFrozen m ≡ true → (loc : Location) → m ≡ Some loc → LocationIn g f.isFrozen loc
+    go None e loc h = ruin (cc)
+    go (Some received) e loc h =
         let same : received ≡ loc = cc in
         rw (sym same) (record { loc_valid = table_location_facts g received (also_left _ _ e); frozen = also_right _ _ e })
 
-facts_received : (g : Geometry) (f : Frozen) → ((loc : Location) → f.frozenLoc ≡ Received loc → LocationIn g f.isFrozen loc) → received_ok g f ≡ true
+facts_received : (g : Geometry) (f : Frozen) → ((loc : Location) → f.frozenLoc ≡ Some loc → LocationIn g f.isFrozen loc) → received_ok g f ≡ true
 unfolding received_ok
 facts_received g f = go f.frozenLoc
   where
-    go : (m : MaybeLocation) → ((loc : Location) → m ≡ Received loc → LocationIn g f.isFrozen loc) → location_ok g f.isFrozen m ≡ true
-    go NoLocation k = refl
-    go (Received loc) k = let l = k loc refl in also_both _ _ (facts_table_location g loc l.loc_valid) l.frozen
+    go : (m : code.Option Location) → ((loc : Location) → m ≡ Some loc → LocationIn g f.isFrozen loc) → location_ok g f.isFrozen m ≡ true
+    go None k = refl
+    go (Some loc) k = let l = k loc refl in also_both _ _ (facts_table_location g loc l.loc_valid) l.frozen
 
 -- of a log commit
 pub record AdvancesLog (written : ℕ) (superblock new : Superblock) : Type 0 where
@@ -161,18 +161,18 @@ module _ (g : Geometry) (written : ℕ) (f : Frozen) (superblock new : Superbloc
       (le-leb (f.frozenJournalPosition + new.journalLen) written a.new_end)
 
 -- the received location is this one
-pub received_is : (m : MaybeLocation) (loc : Location) → is_location m loc ≡ true → m ≡ Received loc
-received_is NoLocation loc e = false_true e
-received_is (Received received) loc e = λ i. Received (same_location_is received loc e i)
+pub received_is : (m : code.Option Location) (loc : Location) → is_location m loc ≡ true → m ≡ Some loc
+received_is None loc e = false_true e
+received_is (Some received) loc e = λ i. Some (same_location_is received loc e i)
 
-pub is_received_is : (m : MaybeLocation) (loc : Location) → m ≡ Received loc → is_location m loc ≡ true
-is_received_is NoLocation loc e = ruin (cc)
-is_received_is (Received received) loc e = location_same received loc (cc)
+pub is_received_is : (m : code.Option Location) (loc : Location) → m ≡ Some loc → is_location m loc ≡ true
+is_received_is None loc e = ruin (cc)
+is_received_is (Some received) loc e = location_same received loc (cc)
 
 -- of either commit's new superblock
 pub record IsNew (g : Geometry) (r : Ready) (new : Superblock) : Type 0 where
   pub none_outstanding_is : r.writes.count ≡ 0
-  pub new_loc : (new.indirectionTableLoc ≡ r.superblock.indirectionTableLoc) ⊎ (r.frozen.frozenLoc ≡ Received new.indirectionTableLoc)
+  pub new_loc : (new.indirectionTableLoc ≡ r.superblock.indirectionTableLoc) ⊎ (r.frozen.frozenLoc ≡ Some new.indirectionTableLoc)
   pub new_wf : WFSuperblock g new
   pub new_counter : new.counter ≡ increment_superblock_counter r.superblock.counter
   pub none_frozen_is : r.entries.frozen ≡ 0
@@ -253,7 +253,7 @@ facts_some_frozen written position isFrozen e k =
 pub record ReadyFacts (g : Geometry) (r : Ready) : Type 0 where
   pub extent : Extent g r.whichSuperblock r.writtenJournalLen r.superblock.journalLen
   pub if_frozen : r.frozen.isFrozen ≡ true → PositionIn g r.writtenJournalLen r.superblock.journalLen r.frozen.frozenJournalPosition
-  pub if_received : (loc : Location) → r.frozen.frozenLoc ≡ Received loc → LocationIn g r.frozen.isFrozen loc
+  pub if_received : (loc : Location) → r.frozen.frozenLoc ≡ Some loc → LocationIn g r.frozen.isFrozen loc
   pub superblock_wf : WFSuperblock g r.superblock
   pub in_flight_is : InFlight g r r.commit
   pub if_some_frozen : (r.entries.frozen ≡ 0 → ⊥) → SomeFrozen r.writtenJournalLen r.frozen.frozenJournalPosition r.frozen.isFrozen

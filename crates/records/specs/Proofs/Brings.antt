@@ -25,8 +25,7 @@ use Rattle.range.specs.Ranges.{parse_all_some, parse_all_iff}
 use Rattle.codec.specs.Codec.{JournalRange, Sized, concat_fold}
 use Rattle.codec.specs.Format.{format, codes_sized, flat_codes}
 use Rattle.codec.proofs.Good.{each_good}
-use Rattle.codec.specs.Ranges.{Good, codes, blocks, whole, full_whole, length_codes}
-use Rattle.source.specs.JournalDisk as D
+use Rattle.codec.specs.Ranges.{codes, blocks, whole, full_whole, length_codes}
 use Rattle.source.specs.JournalCache as M
 use Rattle.source.specs.JournalCache.{SuperblockUnfinished, SuperblockSuccess}
 use Rattle.source.specs.JournalSystem as Y
@@ -38,7 +37,6 @@ use Rattle.history.proofs.Simulation.Relation.{super_of, Sim}
 use Rattle.history.proofs.Loads.Comes.{load_calls, taken, comes_trace, comes_loads}
 use Rattle.history.proofs.Loads.Superblocks.{resting, limits_room}
 use Rattle.history.proofs.Loads.Loads.{comes_up}
-use Rattle.sector.specs.declared.SectorRead.TheVariants as read
 use Rattle.sector.specs.Sector.{sector_size}
 use Rattle.image.specs.Image.{Lent, slot_read, superblock1, superblock2, selected, journal_of, interval_of, interval_bytes, interval_entries, ask_lent, chosen, unmarked, ask_record}
 use Rattle.image.specs.Asked.{SlotsAsked, image_asked, slot_holds_is}

@@ -1,16 +1,16 @@
 -- The record of an image whose disk can be loaded: the selected superblock, its slot, and the entries that its interval parses to. What a ledger
 -- keeps is such a disk.
-use Rattle.std.specs.Prelude.{ℕ, ◌+◌, ◌*◌, ◌<◌, Bool, true, false, ◌≡◌, refl, List, [], eqb, length, get_or}
+use Rattle.std.specs.Prelude.{ℕ, ◌+◌, ◌*◌, ◌<◌, Bool, true, false, ◌≡◌, refl, List, [], eqb, length, get_or, Ok, Err, Result}
 use Rattle.std.proofs.Common.{sym, ◌∙◌, ap, subst, arith, ext_get_or}
 use Rattle.std.proofs.Math.Option.{Option, none, some}
 use Rattle.std.proofs.lemmas.List.{length-map}
 use Rattle.laws.specs.Choice.{ruin, split_eq, ask_holds}
 use Rattle.laws.specs.Cut.{flat, lengths}
-use Rattle.laws.specs.Fold.{sum}
 use Rattle.laws.specs.Part.{length_part, get_d_map_in}
 use Rattle.laws.specs.Ring.{wrap, wrap_in}
 use Rattle.laws.specs.Splice.{splice}
 use Rattle.laws.specs.Sets.{Two, at, same_value}
+use Rattle.refusal.specs.declared.Refusal.{Refusal}
 use Rattle.layout.specs.declared.Geometry.{Geometry}
 use Rattle.interval.specs.declared.JournalInterval.{JournalInterval}
 use Rattle.interval.specs.Interval.{interval}
@@ -26,26 +26,22 @@ use Rattle.journal.specs.Blocks.{length_blocks, block_in, flat_blocks}
 use Rattle.range.specs.Form.{all_entries, all_parse}
 use Rattle.codec.specs.Codec.{JournalEntry, JournalRange}
 use Rattle.codec.specs.Format.{format, format_parses, format_entries}
-use Rattle.codec.specs.Ranges.{codes, whole, whole_same, length_codes, parse_codes, blocks}
+use Rattle.codec.specs.Ranges.{codes, whole, whole_same, length_codes, parse_codes}
 use Rattle.source.specs.JournalDisk as D
 use Rattle.source.specs.JournalCache as M
 use Rattle.history.specs.Ledger.{Kept}
 use Rattle.history.proofs.Journal.Slots.{bit, picked, picked_is, Slots, slots_wf_is}
 use Rattle.history.proofs.Simulation.Relation.{super_of, OnDisk}
-use Rattle.sector.specs.declared.SectorRead.{SectorRead}
-use Rattle.sector.specs.declared.SectorRead.TheVariants as read
 use Rattle.sector.specs.Sector.{sector_size}
-use Rattle.image.specs.declared.Choice.{Choice}
-use Rattle.image.specs.declared.Recorded.TheVariants as recorded
-use Rattle.image.specs.Image.{Lent, slot_read, selected, which, journal_of, interval_of, interval_bytes, interval_entries, ask_parse, refusal, chosen, readable}
+use Rattle.image.specs.Image.{Lent, slot_read, journal_of, interval_of, interval_bytes, interval_entries, ask_parse, refusal, chosen, readable, Chosen, held}
 use Rattle.image.specs.Asked.{readable_asked, chosen_holds}
 use Rattle.image.proofs.FoundLaws.{held_yes, bytes_yes, lens_yes, interval_is}
 use Rattle.records.specs.Pictures.{said, Pictures, RecordIs}
 
 -- what a slot says, taken apart
-pub said_holds : (r : SectorRead) (v : Superblock) → said r ≡ some v → r ≡ read.Holds v
-said_holds (read.Holds s) v e = cc
-said_holds (read.Refused q) v e = ruin (cc)
+pub said_holds : (r : Result Superblock Refusal) (v : Superblock) → said r ≡ some v → r ≡ Ok v
+said_holds (Ok s) v e = cc
+said_holds (Err q) v e = ruin (cc)
 
 -- the slot that is selected, as a number
 pub index_bit : (t : Two Superblock) → select_superblock_index t.first t.second ≡ bit (picked t)
@@ -129,10 +125,10 @@ module _ (g : Geometry) (disk : List ℕ) (size_is : length disk ≡ 8192 + g.bl
     abbrev slots : Slots g d.superblocks w s
     slots = z.selected
 
-    first_read : slot_read disk 0 ≡ read.Holds slots.values.first
+    first_read : slot_read disk 0 ≡ Ok slots.values.first
     first_read = said_holds (slot_read disk 0) slots.values.first (sym pic.first ∙ slots.holds false)
 
-    second_read : slot_read disk sector_size ≡ read.Holds slots.values.second
+    second_read : slot_read disk sector_size ≡ Ok slots.values.second
     second_read = said_holds (slot_read disk sector_size) slots.values.second (sym pic.second ∙ slots.holds true)
 
     -- the interval's blocks are those that the disk holds
@@ -171,10 +167,10 @@ module _ (g : Geometry) (disk : List ℕ) (size_is : length disk ≡ 8192 + g.bl
         ∙ sym loadable_choice
 
     -- and the record by it
-    pub loadable_record : (l : Lent) (c : Choice) → c ≡ chosen g disk 0 → (r : M.ReadyVariables) → r.superblock ≡ s → r.whichSuperblock ≡ w → r.replay_journal ≡ es → RecordIs g disk c l r
-    loadable_record l c e r hs hw he = subst (λ (c : Choice). RecordIs g disk c l r) (sym (e ∙ loadable_choice)) by_choice
+    pub loadable_record : (l : Lent) (c : Chosen) → c ≡ chosen g disk 0 → (r : M.ReadyVariables) → r.superblock ≡ s → r.whichSuperblock ≡ w → r.replay_journal ≡ es → RecordIs g disk c l r
+    loadable_record l c e r hs hw he = subst (λ (c : Chosen). RecordIs g disk c l r) (sym (e ∙ loadable_choice)) by_choice
       where
-        yes : Choice
+        yes : Chosen
         yes = record { no = refusal 0 0; superblock = s; which = bit w }
 
         parses_yes : ask_parse g disk s ≡ 0
@@ -183,7 +179,7 @@ module _ (g : Geometry) (disk : List ℕ) (size_is : length disk ≡ 8192 + g.bl
         by_choice : RecordIs g disk yes l r
         by_choice =
             record {
-              answer = held_yes g disk yes refl parses_yes ∙ (λ i. recorded.Held (sym hs i) (bit (sym hw i)) (length (replay i)) (sum (lengths (replay i))));
+              answer = held_yes g disk yes refl parses_yes ∙ (λ i. Ok (held (sym hs i) (bit (sym hw i)) (replay i)));
               bytes = bytes_yes g disk yes refl parses_yes l ∙ ap (λ (xs : List JournalEntry). splice l.rbytes 0 (flat xs)) replay;
               lens = lens_yes g disk yes refl parses_yes l ∙ ap (λ (xs : List JournalEntry). splice l.rlens 0 (lengths xs)) replay;
             }

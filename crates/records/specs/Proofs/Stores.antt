@@ -1,17 +1,16 @@
 -- Of the code: what a store pictures its view does, the form of a load's end, and a store that begins.
-use Rattle.std.specs.Prelude.{ℕ, ◌≤◌, Bool, true, false, ◌≡◌, refl, List, [], ◌∷◌, length, get_or}
+use Rattle.std.specs.Prelude.{ℕ, ◌≤◌, Bool, true, false, ◌≡◌, refl, List, [], ◌∷◌, length, get_or, Ok}
+use Rattle.std.specs.declared.option.Option as code
 use Rattle.std.proofs.Common.{sym, ◌∙◌, ap, arith}
 use Rattle.std.proofs.Math.Option.{none, some}
 use Rattle.std.proofs.Math.ListN.{get_or-eq_default}
 use Rattle.laws.specs.Choice.{ruin, split_le, by_eqb, cond_some, and_then_both}
-use Rattle.laws.specs.Cut.{lengths}
-use Rattle.laws.specs.Fold.{sum}
 use Rattle.laws.specs.Sets.{none_some}
+use Rattle.laws.specs.Optional.{option_of}
 use Rattle.layout.specs.declared.Geometry.{Geometry}
 use Rattle.interval.specs.Facts.{ValidJournalInterval}
 use Rattle.interval.specs.Journal.{full_range}
 use Rattle.superblock.specs.declared.Superblock.{Superblock}
-use Rattle.superblock.specs.declared.MaybeSuperblock.{MaybeSuperblock}
 use Rattle.journal.specs.Memory.{is_one, full_marks}
 use Rattle.journal.specs.Asked.{journal_blocks, journal_marks, asked_marks, asked_readable}
 use Rattle.journal.specs.Cells.{block_at, cell_at, cells, length_cells, cell_at_is, full_marks_is}
@@ -23,19 +22,16 @@ use Rattle.history.specs.Statement.{Ran}
 use Rattle.history.proofs.Journal.Slots.{bit, slots_wf_is}
 use Rattle.history.proofs.Loads.Superblocks.{resting}
 use Rattle.sector.specs.Answer.{read_sector}
-use Rattle.image.specs.declared.Choice.{Choice}
-use Rattle.image.specs.declared.Recorded.TheVariants as recorded
-use Rattle.image.specs.Image.{Lent, interval_of, selected, ask_lent, chosen, readable, slot_bytes}
+use Rattle.image.specs.Image.{Lent, interval_of, ask_lent, chosen, readable, slot_bytes, Chosen, held}
 use Rattle.image.specs.Written.{held_written, empty_written}
 use Rattle.image.specs.Asked.{image_asked}
+use Rattle.loading.specs.Which.{is_second}
 use Rattle.machine.specs.declared.Kind.TheVariants as kind
-use Rattle.requests.specs.declared.Slots.{Slots}
+use Rattle.requests.specs.Slots.{Slots}
 use Rattle.store.specs.Lent as store
 use Rattle.store.specs.Lent.{machine_lent}
-use Rattle.refine.specs.Disk.View.{superblock_in}
 use Rattle.refine.specs.Machine.MachineInitial.{initial_seen}
 use Rattle.refine.specs.Machine.MachineWork.{work_form}
-use Rattle.refine.specs.Machine.ReadyView.{slot_of}
 use Rattle.refine.specs.Store.Done.{StoreForm}
 use Rattle.refine.specs.Store.Fresh.{idle_seen}
 use Rattle.refine.specs.Store.History.{State, Made, state_seen, code_store, ready_seen, next_formed, run_formed}
@@ -62,7 +58,7 @@ store_pictured g disk s p =
 module _ (g : Geometry) (disk : List ℕ) (l : Lent) (s : State) (pic : StorePictures g disk s) where
   -- either way of asking comes to one choice, where the disk can be loaded
   asks_choice : (w : Bool) (v : Superblock) (es : List JournalEntry) → Loadable g (state_seen g s).disk.superblocks (state_seen g s).disk.journal w v es
-      → (c : Choice) → Asks g disk l s c → (ask_lent g disk l ≡ 0) × (c ≡ chosen g disk 0)
+      → (c : Chosen) → Asks g disk l s c → (ask_lent g disk l ≡ 0) × (c ≡ chosen g disk 0)
   asks_choice w v es z c (plainly e) = (e, ap (chosen g disk) e)
   asks_choice w v es z c (by_marks e h) = (
     e,
@@ -81,7 +77,7 @@ module _ (g : Geometry) (disk : List ℕ) (l : Lent) (s : State) (pic : StorePic
           ∙ whole_full z.held
 
   pub asks_record : (r : M.ReadyVariables) → Loadable g (state_seen g s).disk.superblocks (state_seen g s).disk.journal r.whichSuperblock r.superblock r.replay_journal
-      → (c : Choice) → Asks g disk l s c → RecordIs g disk c l r
+      → (c : Chosen) → Asks g disk l s c → RecordIs g disk c l r
   asks_record r z c a =
       let k = asks_choice r.whichSuperblock r.superblock r.replay_journal z c a in
       loadable_record g disk (image_asked g (length disk) (length l.pieces) (length l.rbytes) (length l.rlens) k.0).disk_size (state_seen g s).disk (store_pictured g disk s pic)
@@ -102,17 +98,17 @@ loaded_formed g s t (x ∷ xs) (false ∷ bs) r e h q =
     loaded_formed g h.0 t xs bs r (ap (λ (u : Y.Variables). u.machine) ((code_store g).refused s x h.0 h.1) ∙ e) h.2 q
 
 -- so that its slot is 0 or 1
-pub slot_number : (w : ℕ) → w ≤ 1 → bit (slot_of w) ≡ w
+pub slot_number : (w : ℕ) → w ≤ 1 → bit (is_second w) ≡ w
 slot_number w h = by_eqb (λ (n : ℕ). n ≡ w) w 1 1 0 (λ e. sym e) (λ n. omega (arith, h, n))
 
-pub ready_record : (g : Geometry) (disk : List ℕ) (c : Choice) (l : Lent) (t : State) → t.store.machine.kind ≡ kind.Ready → StoreForm g t.lent t.store
+pub ready_record : (g : Geometry) (disk : List ℕ) (c : Chosen) (l : Lent) (t : State) → t.store.machine.kind ≡ kind.Ready → StoreForm g t.lent t.store
     → RecordIs g disk c l (ready_seen t) → CodeRecordIs g disk c l t
 ready_record g disk c l t k f z =
     record {
       ready = k;
       answer =
           z.answer
-          ∙ ap (λ (w : ℕ). recorded.Held t.store.machine.ready.superblock w (length (replay_of t)) (sum (lengths (replay_of t))))
+          ∙ ap (λ (w : ℕ). Ok (held t.store.machine.ready.superblock w (replay_of t)))
           (slot_number t.store.machine.ready.whichSuperblock (work_form g (machine_lent t.lent) t.store.machine k f.machine).which_in);
       bytes = z.bytes;
       lens = z.lens;
@@ -142,6 +138,6 @@ fresh_rests g m slots =
     }
 
 -- what a slot holds is said by the sector that is written of it
-pub slot_said : (held : MaybeSuperblock) → SlotFits held → superblock_in held ≡ said (read_sector (slot_bytes held))
+pub slot_said : (held : code.Option Superblock) → SlotFits held → option_of held ≡ said (read_sector (slot_bytes held))
 slot_said held (held_fits {v = v} f) = sym (ap said (held_written v f))
 slot_said held nothing_held = sym (ap said empty_written)

@@ -1,17 +1,17 @@
 -- Every limit of the disk is met exactly: the eighth read waits and the ninth is an 8, the sixteenth journal write waits and the seventeenth is
 -- an 8, also where a write takes two places.
-use Rattle.std.specs.Prelude.{ℕ, ◌+◌, ◌*◌, ◌/◌, ◌≤◌, ◌<◌, Bool, ◌≡◌, List, length, take}
+use Rattle.std.specs.Prelude.{ℕ, ◌+◌, ◌*◌, ◌/◌, ◌≤◌, ◌<◌, Bool, ◌≡◌, List, length, take, None, Some, Ok, Err}
 use Rattle.std.proofs.Math.Bool.{true, false}
 use Rattle.std.proofs.Common.{◌∙◌, arith}
 use Rattle.std.proofs.Math.Path.{ap}
 use Rattle.std.proofs.Math.Option.{none}
 use Rattle.laws.specs.Choice.{not_so}
 use Rattle.laws.specs.Sets.{ids_of}
+use Rattle.refusal.specs.declared.Refusal.TheVariants as no
 use Rattle.layout.specs.declared.Geometry.{Geometry}
 use Rattle.interval.specs.declared.JournalInterval.{JournalInterval}
 use Rattle.interval.specs.Interval.{contiguous_journal_interval}
 use Rattle.interval.specs.Facts.{ValidJournalInterval, ContiguousJournalInterval, facts_interval, contiguous_facts, facts_contiguous}
-use Rattle.superblock.specs.declared.MaybeId.TheVariants as maybe
 use Rattle.tables.specs.Rows.{has_room}
 use Rattle.tables.specs.IdTable.{id_set}
 use Rattle.tables.specs.IntervalTable.{interval_rows, interval_map}
@@ -21,8 +21,7 @@ use Rattle.tables.proofs.Laws.IntervalTables.{level_intervals}
 use Rattle.source.specs.Limits.{limits}
 use Rattle.source.specs.Meets.{DiskMeets}
 use Rattle.disk.specs.declared.Disk.{Disk}
-use Rattle.disk.specs.declared.DiskAnswer.TheVariants as answer
-use Rattle.requests.specs.Slots.{reads_at}
+use Rattle.requests.specs.Slots.{slot_at}
 use Rattle.requests.specs.Receive.{ask_recv_read_superblock, ask_recv_read_journal, rows_for, second_fits}
 use Rattle.disk.specs.Next.{recv_read_superblock_next, recv_read_journal_next, recv_write_journal_next}
 use Rattle.disk.specs.Memory.{new_interval, ask_new_blocks}
@@ -36,7 +35,7 @@ use Rattle.refine.specs.Disk.SuperblockReads.{reads_sized}
 module _ (g : Geometry) (blocks marks : List ℕ) (d : Disk) (z : SizedDisk d) (t : DiskTables d) (l : Lent g blocks marks) (m : DiskMeets g limits (disk_of g blocks marks d)) where
   -- superblock reads of a slot
   module _ (which id : ℕ) (h : which ≤ 1) (n1 : id_set d.superblockReads.first id ≡ false) (n2 : id_set d.superblockReads.second id ≡ false) where
-    pub recv_read_superblock_eighth : (reads_at d.superblockReads which).count ≡ 7 → (recv_read_superblock g d which id blocks marks).answer ≡ answer.Done
+    pub recv_read_superblock_eighth : (slot_at d.superblockReads which).count ≡ 7 → (recv_read_superblock g d which id blocks marks).answer ≡ Ok record {}
     recv_read_superblock_eighth c =
         let size = (reads_sized d.superblockReads which z.reads1 z.reads2).ids_long in
         done_by g blocks marks d z (ask_recv_read_superblock d.superblockReads which id) (recv_read_superblock_next d which id) t l m
@@ -45,17 +44,17 @@ module _ (g : Geometry) (blocks marks : List ℕ) (d : Disk) (z : SizedDisk d) (
           which_in = h;
           new1 = n1;
           new2 = n2;
-          room = has_room_is 8 (reads_at d.superblockReads which).count (reads_at d.superblockReads which).ids 1 (omega arith) (omega arith);
+          room = has_room_is 8 (slot_at d.superblockReads which).count (slot_at d.superblockReads which).ids 1 (omega arith) (omega arith);
         }))
 
-    pub recv_read_superblock_ninth : (reads_at d.superblockReads which).count ≡ 8 → (recv_read_superblock g d which id blocks marks).answer ≡ answer.Refused 8
+    pub recv_read_superblock_ninth : (slot_at d.superblockReads which).count ≡ 8 → (recv_read_superblock g d which id blocks marks).answer ≡ Err no.Room
     recv_read_superblock_ninth c =
         refused_by g blocks marks d z (ask_recv_read_superblock d.superblockReads which id) (recv_read_superblock_next d which id) t l m 8
         (recv_read_superblock_full d.superblockReads which id h n1 n2 (omega arith)) (omega arith)
 
   -- journal reads
   module _ (id : ℕ) (v : JournalInterval) (f : ContiguousJournalInterval g v) (n : interval_map d.journalReads id ≡ none) where
-    pub recv_read_journal_eighth : d.journalReads.count ≡ 7 → (recv_read_journal g d id v blocks marks).answer ≡ answer.Done
+    pub recv_read_journal_eighth : d.journalReads.count ≡ 7 → (recv_read_journal g d id v blocks marks).answer ≡ Ok record {}
     recv_read_journal_eighth c =
         let size = z.journal_reads_is.ids_long in
         done_by g blocks marks d z (ask_recv_read_journal g d.journalReads id v) (recv_read_journal_next d id v) t l m
@@ -67,7 +66,7 @@ module _ (g : Geometry) (blocks marks : List ℕ) (d : Disk) (z : SizedDisk d) (
               (record { new = rows_new (interval_rows d.journalReads) (level_intervals d.journalReads z.journal_reads_is) id n; below = omega arith; free = omega arith });
         }))
 
-    pub recv_read_journal_ninth : d.journalReads.count ≡ 8 → (recv_read_journal g d id v blocks marks).answer ≡ answer.Refused 8
+    pub recv_read_journal_ninth : d.journalReads.count ≡ 8 → (recv_read_journal g d id v blocks marks).answer ≡ Err no.Room
     recv_read_journal_ninth c =
         refused_by g blocks marks d z (ask_recv_read_journal g d.journalReads id v) (recv_read_journal_next d id v) t l m 8
         (recv_read_journal_full g d.journalReads id v (facts_contiguous g v f)
@@ -91,27 +90,27 @@ module _ (g : Geometry) (blocks marks : List ℕ) (d : Disk) (z : SizedDisk d) (
           → has_room 16 d.journalWrites.count (rows_for (contiguous_journal_interval g (new_interval start new))) d.journalWrites.ids ≡ b
       one b e = (λ i. has_room 16 d.journalWrites.count ((ap rows_for straight ∙ rows_straight) i) d.journalWrites.ids) ∙ e
 
-      pub recv_write_journal_sixteenth : d.journalWrites.count ≡ 15 → (recv_write_journal g d id1 maybe.NoId start new blocks marks).answer ≡ answer.Done
+      pub recv_write_journal_sixteenth : d.journalWrites.count ≡ 15 → (recv_write_journal g d id1 None start new blocks marks).answer ≡ Ok record {}
       unfolding v
       recv_write_journal_sixteenth c =
           let size = z.journal_writes_is.ids_long in
-          done_by g blocks marks d z (ask_new_blocks g d.journalWrites id1 maybe.NoId v new) (recv_write_journal_next g d id1 maybe.NoId v) t l m
-          (asks_new_blocks g d.journalWrites id1 maybe.NoId v new w
-          (asks_recv_write_journal g d.journalWrites id1 maybe.NoId v
+          done_by g blocks marks d z (ask_new_blocks g d.journalWrites id1 None v new) (recv_write_journal_next g d id1 None v) t l m
+          (asks_new_blocks g d.journalWrites id1 None v new w
+          (asks_recv_write_journal g d.journalWrites id1 None v
           (record {
             valid = facts_interval g v f;
             new1 = out id1 n1;
             new2 = new_none d.journalWrites;
             room = one true (has_room_is 16 d.journalWrites.count d.journalWrites.ids 1 (omega arith) (omega arith));
-            second = ap (λ (b : Bool). second_fits b id1 maybe.NoId) straight ∙ one_straight id1;
+            second = ap (λ (b : Bool). second_fits b id1 None) straight ∙ one_straight id1;
           })))
 
-      pub recv_write_journal_seventeenth : d.journalWrites.count ≡ 16 → (recv_write_journal g d id1 maybe.NoId start new blocks marks).answer ≡ answer.Refused 8
+      pub recv_write_journal_seventeenth : d.journalWrites.count ≡ 16 → (recv_write_journal g d id1 None start new blocks marks).answer ≡ Err no.Room
       unfolding v
       recv_write_journal_seventeenth c =
-          refused_by g blocks marks d z (ask_new_blocks g d.journalWrites id1 maybe.NoId v new) (recv_write_journal_next g d id1 maybe.NoId v) t l m 8
-          (new_blocks_full g d.journalWrites id1 maybe.NoId v new w
-          (recv_write_journal_full g d.journalWrites id1 maybe.NoId v (facts_interval g v f) (out id1 n1) (new_none d.journalWrites)
+          refused_by g blocks marks d z (ask_new_blocks g d.journalWrites id1 None v new) (recv_write_journal_next g d id1 None v) t l m 8
+          (new_blocks_full g d.journalWrites id1 None v new w
+          (recv_write_journal_full g d.journalWrites id1 None v (facts_interval g v f) (out id1 n1) (new_none d.journalWrites)
           (one false (no_room 16 d.journalWrites.count d.journalWrites.ids 1 (omega arith)))))
           (omega arith)
 
@@ -124,26 +123,26 @@ module _ (g : Geometry) (blocks marks : List ℕ) (d : Disk) (z : SizedDisk d) (
           → has_room 16 d.journalWrites.count (rows_for (contiguous_journal_interval g (new_interval start new))) d.journalWrites.ids ≡ b
       two b e = (λ i. has_room 16 d.journalWrites.count ((ap rows_for wrapped ∙ rows_wrapped) i) d.journalWrites.ids) ∙ e
 
-      pub recv_write_journal_last_two : d.journalWrites.count ≡ 14 → (recv_write_journal g d id1 (maybe.Id id2) start new blocks marks).answer ≡ answer.Done
+      pub recv_write_journal_last_two : d.journalWrites.count ≡ 14 → (recv_write_journal g d id1 (Some id2) start new blocks marks).answer ≡ Ok record {}
       unfolding v
       recv_write_journal_last_two c =
           let size = z.journal_writes_is.ids_long in
-          done_by g blocks marks d z (ask_new_blocks g d.journalWrites id1 (maybe.Id id2) v new) (recv_write_journal_next g d id1 (maybe.Id id2) v) t l m
-          (asks_new_blocks g d.journalWrites id1 (maybe.Id id2) v new w
-          (asks_recv_write_journal g d.journalWrites id1 (maybe.Id id2) v
+          done_by g blocks marks d z (ask_new_blocks g d.journalWrites id1 (Some id2) v new) (recv_write_journal_next g d id1 (Some id2) v) t l m
+          (asks_new_blocks g d.journalWrites id1 (Some id2) v new w
+          (asks_recv_write_journal g d.journalWrites id1 (Some id2) v
           (record {
             valid = facts_interval g v f;
             new1 = out id1 n1;
             new2 = new_second d.journalWrites id2 (out id2 n2);
             room = two true (has_room_is 16 d.journalWrites.count d.journalWrites.ids 2 (omega arith) (omega arith));
-            second = ap (λ (b : Bool). second_fits b id1 (maybe.Id id2)) wrapped ∙ two_wrapped id1 id2 o;
+            second = ap (λ (b : Bool). second_fits b id1 (Some id2)) wrapped ∙ two_wrapped id1 id2 o;
           })))
 
-      pub recv_write_journal_one_left : d.journalWrites.count ≡ 15 → (recv_write_journal g d id1 (maybe.Id id2) start new blocks marks).answer ≡ answer.Refused 8
+      pub recv_write_journal_one_left : d.journalWrites.count ≡ 15 → (recv_write_journal g d id1 (Some id2) start new blocks marks).answer ≡ Err no.Room
       unfolding v
       recv_write_journal_one_left c =
-          refused_by g blocks marks d z (ask_new_blocks g d.journalWrites id1 (maybe.Id id2) v new) (recv_write_journal_next g d id1 (maybe.Id id2) v) t l m 8
-          (new_blocks_full g d.journalWrites id1 (maybe.Id id2) v new w
-          (recv_write_journal_full g d.journalWrites id1 (maybe.Id id2) v (facts_interval g v f) (out id1 n1) (new_second d.journalWrites id2 (out id2 n2))
+          refused_by g blocks marks d z (ask_new_blocks g d.journalWrites id1 (Some id2) v new) (recv_write_journal_next g d id1 (Some id2) v) t l m 8
+          (new_blocks_full g d.journalWrites id1 (Some id2) v new w
+          (recv_write_journal_full g d.journalWrites id1 (Some id2) v (facts_interval g v f) (out id1 n1) (new_second d.journalWrites id2 (out id2 n2))
           (two false (no_room 16 d.journalWrites.count d.journalWrites.ids 2 (omega arith)))))
           (omega arith)

@@ -1,11 +1,12 @@
 -- The crash against 001's Crash with a picture (`DiskCrash⁺`): the blocks that a row in use covers are those that 001 counts as touched, and
 -- the crash is sound, complete and refused as the operations are.
-use Rattle.std.specs.Prelude.{ℕ, ◌<◌, true, false, ◌≡◌, refl, List, length, get_or}
+use Rattle.std.specs.Prelude.{ℕ, ◌<◌, true, false, ◌≡◌, refl, List, length, get_or, Ok, Err}
 use Rattle.std.proofs.Common.{sym, ◌∙◌, ap, subst, inl, ⊎_elim, arith}
 use Rattle.std.proofs.Math.Option.{Option, none}
 use Rattle.laws.specs.Choice.{not_so, split_bool, true_false, unless_done, unless_kept}
 use Rattle.laws.specs.Maps.{Values}
 use Rattle.laws.specs.Sets.{both}
+use Rattle.refusal.specs.declared.Refusal.{Refusal}
 use Rattle.layout.specs.declared.Geometry.{Geometry}
 use Rattle.interval.specs.declared.JournalInterval.{JournalInterval}
 use Rattle.interval.specs.Interval.{interval}
@@ -25,8 +26,7 @@ use Rattle.source.specs.Limits.{limits}
 use Rattle.source.specs.Within.{Crashed, DiskAllowed, Picture}
 use Rattle.source.proofs.Laws.Unique.{disk_crash_one}
 use Rattle.disk.specs.declared.Disk.{Disk}
-use Rattle.disk.specs.declared.DiskStepped.{DiskStepped}
-use Rattle.disk.specs.declared.DiskAnswer.TheVariants as answer
+use Rattle.disk.specs.Disk.{DiskStepped}
 use Rattle.disk.specs.Laws.Answers.{done_asked, asked_done, refused_asked, refused_same}
 use Rattle.crash.specs.Picture.{in_row, covered, crashed_blocks, crashed_marks}
 use Rattle.crash.specs.Whole.{crashed_disk, ask_crash, crash, crash_blocks, crash_marks}
@@ -130,7 +130,7 @@ module _ (g : Geometry) (d : Disk) (picture pictured blocks marks : List ℕ) wh
       disk_of g (unless_done q blocks (crashed_blocks d.journalWrites picture blocks) e i) (unless_done q marks (crashed_marks d.journalWrites pictured marks) e i)
       (asked_done q (crashed_disk d) d e i).disk
 
-  pub crash_sound : SizedDisk d → (crash g d picture pictured blocks marks).answer ≡ answer.Done
+  pub crash_sound : SizedDisk d → (crash g d picture pictured blocks marks).answer ≡ Ok record {}
       → DiskAllowed g limits (disk_of g blocks marks d) crash_view (Crashed (cells g picture pictured))
   crash_sound z e =
       let e0 = done_asked (ask_crash g d picture pictured blocks marks) (crashed_disk d) d e in
@@ -143,7 +143,7 @@ module _ (g : Geometry) (d : Disk) (picture pictured blocks marks : List ℕ) wh
   -- with a lent picture: the source's crash is done, and leads where the source's does
   pub crash_lent_complete : SizedDisk d → DiskTables d → Lent g blocks marks → Lent g picture pictured → (s' : D.Variables)
       → DiskAllowed g limits (disk_of g blocks marks d) s' (Crashed (cells g picture pictured))
-      → ((crash g d picture pictured blocks marks).answer ≡ answer.Done) × (crash_view ≡ s')
+      → ((crash g d picture pictured blocks marks).answer ≡ Ok record {}) × (crash_view ≡ s')
   crash_lent_complete z t l p s' a =
       let m : Met g blocks marks d z = record { lent = l; tables = t; meets = a.meets } in
       let e0 : ask_crash g d picture pictured blocks marks ≡ 0 = met_asked z m p in (
@@ -151,7 +151,7 @@ module _ (g : Geometry) (d : Disk) (picture pictured blocks marks : List ℕ) wh
         done_view e0 ∙ sym (crash_one z m p s' a.step),
       )
 
-  pub crash_refused : (n : ℕ) → (crash g d picture pictured blocks marks).answer ≡ answer.Refused n
+  pub crash_refused : (n : Refusal) → (crash g d picture pictured blocks marks).answer ≡ Err n
       → ((crash g d picture pictured blocks marks).disk ≡ d) × (crash_blocks g d picture pictured blocks marks ≡ blocks) × (crash_marks g d picture pictured blocks marks ≡ marks)
   crash_refused n e =
       let q : ℕ = ask_crash g d picture pictured blocks marks in
@@ -165,7 +165,7 @@ module _ (g : Geometry) (d : Disk) (blocks marks : List ℕ) where
   -- any picture that is within the limits: some lent blocks and marks show it, and the crash with them is done
   pub crash_complete : SizedDisk d → DiskTables d → Lent g blocks marks → (picture : List (Option JournalBlock)) (s' : D.Variables)
       → DiskAllowed g limits (disk_of g blocks marks d) s' (Crashed picture) → Picture g picture
-      → ((crash g d (picture_bytes picture) (picture_marks picture) blocks marks).answer ≡ answer.Done)
+      → ((crash g d (picture_bytes picture) (picture_marks picture) blocks marks).answer ≡ Ok record {})
       × (crash_view g d (picture_bytes picture) (picture_marks picture) blocks marks ≡ s')
       × (cells g (picture_bytes picture) (picture_marks picture) ≡ picture)
   crash_complete z t l picture s' a h =
@@ -177,7 +177,7 @@ module _ (g : Geometry) (d : Disk) (blocks marks : List ℕ) where
       (done.0, done.1, shown)
 
   -- the crash in place, whose picture is the disk's own content: the same of a lent memory that stays as it is
-  pub crash_in_place_sound : SizedDisk d → (crash g d blocks marks blocks marks).answer ≡ answer.Done
+  pub crash_in_place_sound : SizedDisk d → (crash g d blocks marks blocks marks).answer ≡ Ok record {}
       → DiskAllowed g limits (disk_of g blocks marks d) (disk_of g blocks marks (crash g d blocks marks blocks marks).disk) (Crashed (cells g blocks marks))
   crash_in_place_sound z e =
       subst (λ (x : D.Variables). DiskAllowed g limits (disk_of g blocks marks d) x (Crashed (cells g blocks marks)))
@@ -186,7 +186,7 @@ module _ (g : Geometry) (d : Disk) (blocks marks : List ℕ) where
 
   pub crash_in_place_complete : SizedDisk d → DiskTables d → Lent g blocks marks → (s' : D.Variables)
       → DiskAllowed g limits (disk_of g blocks marks d) s' (Crashed (cells g blocks marks))
-      → ((crash g d blocks marks blocks marks).answer ≡ answer.Done) × (disk_of g blocks marks (crash g d blocks marks blocks marks).disk ≡ s')
+      → ((crash g d blocks marks blocks marks).answer ≡ Ok record {}) × (disk_of g blocks marks (crash g d blocks marks blocks marks).disk ≡ s')
   crash_in_place_complete z t l s' a =
       let done = crash_lent_complete g d blocks marks blocks marks z t l l s' a in (
         done.0,

@@ -1,9 +1,10 @@
 -- Journal reads, received and answered, against 001's RecvReadJournal and AckReadJournal.
-use Rattle.std.specs.Prelude.{ℕ, ◌*◌, ◌<◌, Bool, true, false, cond, ◌≡◌, refl, List, length, take}
+use Rattle.std.specs.Prelude.{ℕ, ◌*◌, ◌<◌, Bool, true, false, cond, ◌≡◌, refl, List, length, take, Ok, Err}
 use Rattle.std.proofs.Common.{sym, ◌∙◌, ap, subst, arith}
 use Rattle.std.proofs.Math.Option.{Option, none, some}
 use Rattle.laws.specs.Choice.{and_then, and_then_left, and_then_right, and_then_both, unless_done, unless_kept, false_true}
 use Rattle.laws.specs.Sets.{Ids, ids_of, bind, unbind, is_key, keys, AtMost, none_some}
+use Rattle.refusal.specs.declared.Refusal.{Refusal}
 use Rattle.layout.specs.declared.Geometry.{Geometry}
 use Rattle.interval.specs.declared.JournalInterval.{JournalInterval}
 use Rattle.interval.specs.Facts.{ContiguousJournalInterval, contiguous_facts, facts_contiguous}
@@ -25,9 +26,7 @@ use Rattle.source.specs.Limits.{limits}
 use Rattle.source.specs.Meets.{DiskMeets}
 use Rattle.source.specs.Within.{Operation, DiskAllowed, DiskWithin}
 use Rattle.disk.specs.declared.Disk.{Disk}
-use Rattle.disk.specs.declared.DiskAnswer.TheVariants as answer
-use Rattle.disk.specs.declared.JournalAcked.{JournalAcked}
-use Rattle.disk.specs.declared.JournalAnswer.TheVariants as journalAnswer
+use Rattle.disk.specs.Disk.{JournalAcked}
 use Rattle.disk.specs.Questions.{ask_disk, ask_disk_out}
 use Rattle.requests.specs.Receive.{ask_recv_read_journal}
 use Rattle.disk.specs.Next.{recv_read_journal_next}
@@ -35,7 +34,7 @@ use Rattle.requests.specs.Acknowledge.{held_interval, ask_ack_read_journal}
 use Rattle.disk.specs.Next.{ack_read_journal_next}
 use Rattle.disk.specs.Memory.{read_out}
 use Rattle.disk.specs.Whole.{recv_read_journal, ask_read_journal, ack_read_journal, ack_read_journal_out}
-use Rattle.disk.specs.Laws.Answers.{refused_same, journal_read_is, journal_refused_is, asked_journal_read, journal_same}
+use Rattle.disk.specs.Laws.Answers.{refused_same, journal_read_is, journal_refused_is, asked_read, read_same}
 use Rattle.disk.specs.Laws.Questions.{out_disk, out_blocks, asks_out}
 use Rattle.requests.specs.Laws.Receive.{recv_read_journal_asked, asks_recv_read_journal}
 use Rattle.disk.specs.Laws.Next.{recv_read_journal_next_is}
@@ -77,19 +76,19 @@ module _ (g : Geometry) (d : Disk) (id : ℕ) (v : JournalInterval) (blocks mark
             few_rows_add (interval_rows r) (level_intervals r z.journal_reads_is) r.count (counted_own r.count r.ids t.journal_reads_is) 8 id v (omega arith) a.new few;
       })
 
-  pub recv_read_journal_sound : SizedDisk d → (recv_read_journal g d id v blocks marks).answer ≡ answer.Done
+  pub recv_read_journal_sound : SizedDisk d → (recv_read_journal g d id v blocks marks).answer ≡ Ok record {}
       → DiskAllowed g limits (disk_of g blocks marks d) (disk_of g blocks marks (recv_read_journal g d id v blocks marks).disk) (Operation (ReqReadJournalOp id v))
   recv_read_journal_sound z e =
       sound_by g blocks marks d z (ask_recv_read_journal g d.journalReads id v) (recv_read_journal_next d id v) (Operation (ReqReadJournalOp id v)) e (λ e0 m. recv_read_clauses z e0)
 
   pub recv_read_journal_complete : SizedDisk d → DiskTables d → Lent g blocks marks → (s' : D.Variables) → DiskAllowed g limits (disk_of g blocks marks d) s' (Operation (ReqReadJournalOp id v))
       → DiskWithin g limits s' (Operation (ReqReadJournalOp id v))
-      → ((recv_read_journal g d id v blocks marks).answer ≡ answer.Done) × (disk_of g blocks marks (recv_read_journal g d id v blocks marks).disk ≡ s')
+      → ((recv_read_journal g d id v blocks marks).answer ≡ Ok record {}) × (disk_of g blocks marks (recv_read_journal g d id v blocks marks).disk ≡ s')
   recv_read_journal_complete z t l s' a w =
       let e = clauses_recv_read z t s' a.step w.counts.journal_reads_few in
       complete_by g blocks marks d z (ask_recv_read_journal g d.journalReads id v) (recv_read_journal_next d id v) s' t l a.meets e ((recv_read_clauses z e).next ∙ sym a.step.next)
 
-  pub recv_read_journal_refused : (n : ℕ) → (recv_read_journal g d id v blocks marks).answer ≡ answer.Refused n → (recv_read_journal g d id v blocks marks).disk ≡ d
+  pub recv_read_journal_refused : (n : Refusal) → (recv_read_journal g d id v blocks marks).answer ≡ Err n → (recv_read_journal g d id v blocks marks).disk ≡ d
   recv_read_journal_refused n e = refused_same (and_then (ask_disk g d blocks marks) (ask_recv_read_journal g d.journalReads id v)) (recv_read_journal_next d id v) d n e
 
 -- AckReadJournal
@@ -163,7 +162,7 @@ module _ (g : Geometry) (d : Disk) (id : ℕ) (blocks marks out : List ℕ) wher
       content true v u e jr p y = let q : blocks_in v.len (read_out true v blocks out) ≡ jr = cc in sym q ∙ (λ i. blocks_in (e i).len (read_out true (e i) blocks out)) ∙ y refl
       content false v u e jr p y = none_some refl p
 
-  pub ack_read_journal_sound : SizedDisk d → (whole : Bool) (v : JournalInterval) → (ack_read_journal g d id whole blocks marks out).answer ≡ journalAnswer.Read v
+  pub ack_read_journal_sound : SizedDisk d → (whole : Bool) (v : JournalInterval) → (ack_read_journal g d id whole blocks marks out).answer ≡ Ok v
       → DiskAllowed g limits (disk_of g blocks marks d) (disk_of g blocks marks (ack_read_journal g d id whole blocks marks out).disk)
       (Operation (RespReadJournalOp id (blocks_read whole v (ack_read_journal_out g d id whole blocks marks out))))
   ack_read_journal_sound z whole v e =
@@ -176,7 +175,7 @@ module _ (g : Geometry) (d : Disk) (id : ℕ) (blocks marks out : List ℕ) wher
       read_clauses z m (blocks_asked g out (out_blocks g d blocks marks out a)).size whole
       (and_then_right (ask_disk_out g d blocks marks out) (ask_ack_read_journal d.journalReads id whole marks) k.0)
       in
-      let done = asked_journal_read q u (ack_read_journal_next d id) d k.0 in
+      let done = asked_read q u (ack_read_journal_next d id) d k.0 in
       let left = unless_done q out (read_out whole u blocks out) k.0 in
       record {
         meets = m.meets;
@@ -215,7 +214,7 @@ module _ (g : Geometry) (d : Disk) (id : ℕ) (blocks marks out : List ℕ) wher
 
   pub ack_read_journal_complete : SizedDisk d → DiskTables d → Lent g blocks marks → length out ≡ g.blocks * 4096 → (journal : Option JournalRange) (s' : D.Variables)
       → DiskAllowed g limits (disk_of g blocks marks d) s' (Operation (RespReadJournalOp id journal))
-      → ((ack_read_journal g d id (is_key journal) blocks marks out).answer ≡ journalAnswer.Read (held_interval d.journalReads id))
+      → ((ack_read_journal g d id (is_key journal) blocks marks out).answer ≡ Ok (held_interval d.journalReads id))
       × (disk_of g blocks marks (ack_read_journal g d id (is_key journal) blocks marks out).disk ≡ s')
       × (blocks_read (is_key journal) (held_interval d.journalReads id) (ack_read_journal_out g d id (is_key journal) blocks marks out) ≡ journal)
   ack_read_journal_complete z t l h journal s' a =
@@ -228,17 +227,17 @@ module _ (g : Geometry) (d : Disk) (id : ℕ) (blocks marks out : List ℕ) wher
       let e0 : q ≡ 0 =
       and_then_both (ask_disk_out g d blocks marks out) (ask_ack_read_journal d.journalReads id (is_key journal) marks) b (clauses_read z l a.meets journal s' a.step)
       in
-      let done = asked_journal_read q v (ack_read_journal_next d id) d e0 in (
+      let done = asked_read q v (ack_read_journal_next d id) d e0 in (
         ap (λ (x : JournalAcked). x.answer) done,
         ap (λ (x : JournalAcked). disk_of g blocks marks x.disk) done ∙ journal_answered_is z.journal_reads_is t ∙ sym a.step.next,
         ap (blocks_read (is_key journal) v) (unless_done q out (read_out (is_key journal) v blocks out) e0) ∙ content_read z l a.meets journal s' a.step h,
       )
 
-  pub ack_read_journal_refused : (whole : Bool) (n : ℕ) → (ack_read_journal g d id whole blocks marks out).answer ≡ journalAnswer.Refused n
+  pub ack_read_journal_refused : (whole : Bool) (n : Refusal) → (ack_read_journal g d id whole blocks marks out).answer ≡ Err n
       → ((ack_read_journal g d id whole blocks marks out).disk ≡ d) × (ack_read_journal_out g d id whole blocks marks out ≡ out)
   ack_read_journal_refused whole n e =
       let q : ℕ = ask_read_journal g d id whole blocks marks out in
       let u : JournalInterval = held_interval d.journalReads id in (
-        journal_same q u (ack_read_journal_next d id) d n e,
+        read_same q u (ack_read_journal_next d id) d n e,
         unless_kept q out (read_out whole u blocks out) (journal_refused_is q u (ack_read_journal_next d id) d (ack_read_journal g d id whole blocks marks out) refl n e),
       )

@@ -1,17 +1,18 @@
 -- Journal writes, received and answered, against 001's RecvWriteJournal and AckWriteJournal. The blocks change when the write is received.
-use Rattle.std.specs.Prelude.{ℕ, ◌+◌, ◌-◌, ◌*◌, ◌/◌, ◌≤◌, ◌<◌, Bool, true, false, ◌≡◌, refl, List, length, take}
+use Rattle.std.specs.Prelude.{ℕ, ◌+◌, ◌-◌, ◌*◌, ◌/◌, ◌≤◌, ◌<◌, Bool, true, false, ◌≡◌, refl, List, length, take, None, Some, Ok, Err}
+use Rattle.std.specs.declared.option.Option as code
 use Rattle.std.proofs.Common.{sym, ◌∙◌, ap, subst, arith}
-use Rattle.std.proofs.Math.Option.{Option, none, some}
-use Rattle.laws.specs.Choice.{and_then, and_then_right, unless_done, unless_kept, not_so, split_le, ruin}
+use Rattle.std.proofs.Math.Option.{none, some}
+use Rattle.laws.specs.Choice.{and_then, and_then_right, unless_done, unless_kept, not_so, split_le}
 use Rattle.laws.specs.Sets.{ids_of, bind, unbind, keys, AtMost, none_some}
 use Rattle.laws.specs.Maps.{map_of_none}
+use Rattle.laws.specs.Optional.{option_of, option_same}
+use Rattle.refusal.specs.declared.Refusal.{Refusal}
 use Rattle.layout.specs.declared.Geometry.{Geometry}
 use Rattle.interval.specs.declared.JournalInterval.{JournalInterval}
 use Rattle.interval.specs.Interval.{interval, contiguous_journal_interval}
 use Rattle.interval.specs.Facts.{ValidJournalInterval, interval_facts, facts_interval, contiguous_facts, facts_contiguous}
 use Rattle.interval.specs.Journal.{JournalUpdate}
-use Rattle.superblock.specs.declared.MaybeId.{MaybeId}
-use Rattle.superblock.specs.declared.MaybeId.TheVariants as maybe
 use Rattle.journal.specs.Memory.{update_bytes, update_marks}
 use Rattle.journal.specs.Asked.{Update}
 use Rattle.journal.specs.Cells.{blocks_in, cells}
@@ -29,8 +30,7 @@ use Rattle.source.specs.Limits.{limits}
 use Rattle.source.specs.Within.{Operation, DiskAllowed, DiskWithin}
 use Rattle.source.proofs.Laws.Unique.{recv_write_journal_one}
 use Rattle.disk.specs.declared.Disk.{Disk}
-use Rattle.disk.specs.declared.DiskStepped.{DiskStepped}
-use Rattle.disk.specs.declared.DiskAnswer.TheVariants as answer
+use Rattle.disk.specs.Disk.{DiskStepped}
 use Rattle.disk.specs.Disk.{with_journal_writes}
 use Rattle.disk.specs.Questions.{ask_disk}
 use Rattle.requests.specs.Receive.{is_new, rows_for, second_fits, write_received}
@@ -50,26 +50,13 @@ use Rattle.refine.specs.Disk.Meets.{Met, counted_own}
 use Rattle.refine.specs.Disk.Calls.{asks_met, met_asks, sound_by, complete_by}
 use Rattle.refine.specs.Disk.JournalReads.{waiting_some}
 
--- a second id, if one is given
-abbrev pub id_in : MaybeId → Option ℕ
-id_in (maybe.Id id) = some id
-id_in maybe.NoId = none
-
 -- the write of the blocks of `new` from an interval's start on
 abbrev pub write_of : JournalInterval → List ℕ → ReqWriteJournal
 write_of v new = record { start = v.start; journal = blocks_in v.len new }
 
-no_id : (x : MaybeId) → id_in x ≡ none → x ≡ maybe.NoId
-no_id (maybe.Id id) e = none_some e refl
-no_id maybe.NoId e = refl
-
-this_id : (x : MaybeId) (id : ℕ) → id_in x ≡ some id → x ≡ maybe.Id id
-this_id (maybe.Id k) id e = cc
-this_id maybe.NoId id e = ruin (cc)
-
 -- RecvWriteJournal
 
-module _ (g : Geometry) (d : Disk) (id1 : ℕ) (id2 : MaybeId) (v : JournalInterval) (new blocks marks : List ℕ) where
+module _ (g : Geometry) (d : Disk) (id1 : ℕ) (id2 : code.Option ℕ) (v : JournalInterval) (new blocks marks : List ℕ) where
   -- the interval that the source makes of the request
   written_is : v ≡ written (write_of v new)
   written_is = λ i. interval v.start (sym (length_blocks v.len new) i)
@@ -81,7 +68,7 @@ module _ (g : Geometry) (d : Disk) (id1 : ℕ) (id2 : MaybeId) (v : JournalInter
   wrapped_is h = not_so (contiguous_journal_interval g v) (λ e. let f = contiguous_facts g v e in omega arith)
 
   -- the view of the next disk: one row, and two
-  one_row : SizedIntervals d.journalWrites → has_room 16 d.journalWrites.count 1 d.journalWrites.ids ≡ true → interval_map d.journalWrites id1 ≡ none → id2 ≡ maybe.NoId
+  one_row : SizedIntervals d.journalWrites → has_room 16 d.journalWrites.count 1 d.journalWrites.ids ≡ true → interval_map d.journalWrites id1 ≡ none → id2 ≡ None
       → disk_of g (update_bytes blocks v new) (update_marks marks v) (recv_write_journal_next g d id1 id2 v)
       ≡ D.to_journal (cells g (update_bytes blocks v new) (update_marks marks v))
       (D.to_req_write_journals (bind (interval_map d.journalWrites) id1 (written (write_of v new))) (disk_of g blocks marks d))
@@ -89,7 +76,7 @@ module _ (g : Geometry) (d : Disk) (id1 : ℕ) (id2 : MaybeId) (v : JournalInter
       let k = room_array 16 d.journalWrites.count d.journalWrites.ids 1 r in
       ap (disk_of g (update_bytes blocks v new) (update_marks marks v))
       (recv_write_journal_next_is g d id1 id2 v
-      ∙ ap (with_journal_writes d) (ap (λ (x : MaybeId). write_received g d.journalWrites id1 x v) e ∙ write_straight g d.journalWrites id1 v))
+      ∙ ap (with_journal_writes d) (ap (λ (x : code.Option ℕ). write_received g d.journalWrites id1 x v) e ∙ write_straight g d.journalWrites id1 v))
       ∙ (λ i.
       D.to_journal (cells g (update_bytes blocks v new) (update_marks marks v))
       (D.to_req_write_journals
@@ -97,14 +84,14 @@ module _ (g : Geometry) (d : Disk) (id1 : ℕ) (id2 : MaybeId) (v : JournalInter
       (disk_of g blocks marks d)))
 
   two_rows : SizedIntervals d.journalWrites → has_room 16 d.journalWrites.count 2 d.journalWrites.ids ≡ true → (id : ℕ) → interval_map d.journalWrites id1 ≡ none
-      → interval_map d.journalWrites id ≡ none → id2 ≡ maybe.Id id → (id ≡ id1 → ⊥) → g.blocks - v.start < v.len
+      → interval_map d.journalWrites id ≡ none → id2 ≡ Some id → (id ≡ id1 → ⊥) → g.blocks - v.start < v.len
       → disk_of g (update_bytes blocks v new) (update_marks marks v) (recv_write_journal_next g d id1 id2 v)
       ≡ D.to_journal (cells g (update_bytes blocks v new) (update_marks marks v))
       (D.to_req_write_journals (bind (bind (interval_map d.journalWrites) id1 (written1 g (write_of v new))) id (written2 g (write_of v new))) (disk_of g blocks marks d))
   two_rows l r id n1 n2 e o h =
       ap (disk_of g (update_bytes blocks v new) (update_marks marks v))
       (recv_write_journal_next_is g d id1 id2 v
-      ∙ ap (with_journal_writes d) (ap (λ (x : MaybeId). write_received g d.journalWrites id1 x v) e ∙ write_wrapped g d.journalWrites id1 id v h))
+      ∙ ap (with_journal_writes d) (ap (λ (x : code.Option ℕ). write_received g d.journalWrites id1 x v) e ∙ write_wrapped g d.journalWrites id1 id v h))
       ∙ (λ i.
       D.to_journal (cells g (update_bytes blocks v new) (update_marks marks v))
       (D.to_req_write_journals
@@ -115,7 +102,7 @@ module _ (g : Geometry) (d : Disk) (id1 : ℕ) (id2 : MaybeId) (v : JournalInter
 
   -- the source's clauses, of a yes
   pub write_clauses : (z : SizedDisk d) → Met g blocks marks d z → ask_new_blocks g d.journalWrites id1 id2 v new ≡ 0
-      → D.RecvWriteJournal g (disk_of g blocks marks d) (disk_of g (update_bytes blocks v new) (update_marks marks v) (recv_write_journal_next g d id1 id2 v)) id1 (id_in id2) (write_of v new)
+      → D.RecvWriteJournal g (disk_of g blocks marks d) (disk_of g (update_bytes blocks v new) (update_marks marks v) (recv_write_journal_next g d id1 id2 v)) id1 (option_of id2) (write_of v new)
   write_clauses z m e =
       let t : IntervalTable = d.journalWrites in
       let a = recv_write_journal_asked g t id1 id2 v (new_blocks_rows g t id1 id2 v new e) in
@@ -134,28 +121,28 @@ module _ (g : Geometry) (d : Disk) (id1 : ℕ) (id2 : MaybeId) (v : JournalInter
             let c : contiguous_journal_interval g v ≡ true = straight_is f (omega arith) in
             let e2 = straight_one id1 id2 (ap (λ (b : Bool). second_fits b id1 id2) (sym c) ∙ a.second) in
             let r : has_room 16 t.count 1 t.ids ≡ true = (λ i. has_room 16 t.count (sym (ap rows_for c ∙ rows_straight) i) t.ids) ∙ a.room in
-            record { one_id_is = ap id_in e2; next = one_row z.journal_writes_is r (out id1 a.new1) e2 };
+            record { one_id_is = ap option_of e2; next = one_row z.journal_writes_is r (out id1 a.new1) e2 };
         wrapped = λ h.
             let c : contiguous_journal_interval g v ≡ false = wrapped_is (omega arith) in
             let k = wrapped_two id1 id2 (ap (λ (b : Bool). second_fits b id1 id2) (sym c) ∙ a.second) in
             let r : has_room 16 t.count 2 t.ids ≡ true = (λ i. has_room 16 t.count (sym (ap rows_for c ∙ rows_wrapped) i) t.ids) ∙ a.room in
             record {
               id = k.0;
-              two_ids = ap id_in k.1;
+              two_ids = ap option_of k.1;
               differ = k.2;
-              next = two_rows z.journal_writes_is r k.0 (out id1 a.new1) (second_out id2 a.new2 k.0 (ap id_in k.1)) k.1 k.2 (omega arith);
+              next = two_rows z.journal_writes_is r k.0 (out id1 a.new1) (second_out id2 a.new2 k.0 (ap option_of k.1)) k.1 k.2 (omega arith);
             };
       }
     where
       out : (id : ℕ) → ids_of (take d.journalWrites.count d.journalWrites.ids) id ≡ false → interval_map d.journalWrites id ≡ none
       out id n = map_of_none (take d.journalWrites.count d.journalWrites.ids) (take d.journalWrites.count d.journalWrites.intervals) id n
 
-      second_out : (x : MaybeId) → is_new d.journalWrites x ≡ true → (id : ℕ) → id_in x ≡ some id → interval_map d.journalWrites id ≡ none
-      second_out (maybe.Id k) n id p = let q : k ≡ id = cc in ap (interval_map d.journalWrites) (sym q) ∙ out k (second_new d.journalWrites k n)
-      second_out maybe.NoId n id p = none_some refl p
+      second_out : (x : code.Option ℕ) → is_new d.journalWrites x ≡ true → (id : ℕ) → option_of x ≡ some id → interval_map d.journalWrites id ≡ none
+      second_out (Some k) n id p = let q : k ≡ id = cc in ap (interval_map d.journalWrites) (sym q) ∙ out k (second_new d.journalWrites k n)
+      second_out None n id p = none_some refl p
 
   -- and back: the questions of a write that the source allows within the limit
-  pub clauses_write : SizedDisk d → DiskTables d → length new ≡ v.len * 4096 → (s' : D.Variables) → D.RecvWriteJournal g (disk_of g blocks marks d) s' id1 (id_in id2) (write_of v new)
+  pub clauses_write : SizedDisk d → DiskTables d → length new ≡ v.len * 4096 → (s' : D.Variables) → D.RecvWriteJournal g (disk_of g blocks marks d) s' id1 (option_of id2) (write_of v new)
       → AtMost 16 (keys s'.req_write_journals) → ask_new_blocks g d.journalWrites id1 id2 v new ≡ 0
   clauses_write z t h s' a w =
       asks_new_blocks g d.journalWrites id1 id2 v new h
@@ -164,7 +151,7 @@ module _ (g : Geometry) (d : Disk) (id1 : ℕ) (id2 : MaybeId) (v : JournalInter
       (λ l.
       let k = a.straight (omega (arith, l, long)) in
       let c = straight_is f l in
-      let e2 = no_id id2 k.one_id_is in
+      let e2 = option_same id2 None k.one_id_is in
       let few : AtMost 16 (keys (bind (interval_map d.journalWrites) id1 (written (write_of v new)))) =
       subst (λ (x : D.Variables). AtMost 16 (keys x.req_write_journals)) k.next w
       in
@@ -179,7 +166,7 @@ module _ (g : Geometry) (d : Disk) (id1 : ℕ) (id2 : MaybeId) (v : JournalInter
       (λ l.
       let k = a.wrapped (omega (arith, l, long)) in
       let c = wrapped_is l in
-      let e2 = this_id id2 k.id k.two_ids in
+      let e2 = option_same id2 (Some k.id) k.two_ids in
       let few : AtMost 16 (keys (bind (bind (interval_map d.journalWrites) id1 (written1 g (write_of v new))) k.id (written2 g (write_of v new)))) =
       subst (λ (x : D.Variables). AtMost 16 (keys x.req_write_journals)) k.next w
       in
@@ -204,9 +191,9 @@ module _ (g : Geometry) (d : Disk) (id1 : ℕ) (id2 : MaybeId) (v : JournalInter
       f : ValidJournalInterval g v
       f = subst (ValidJournalInterval g) (sym written_is) a.update.interval_valid
 
-      new_id : (x : MaybeId) → ((id : ℕ) → id_in x ≡ some id → interval_map d.journalWrites id ≡ none) → is_new d.journalWrites x ≡ true
-      new_id (maybe.Id id) n = new_second d.journalWrites id (rows_new (interval_rows d.journalWrites) level id (n id refl))
-      new_id maybe.NoId n = new_none d.journalWrites
+      new_id : (x : code.Option ℕ) → ((id : ℕ) → option_of x ≡ some id → interval_map d.journalWrites id ≡ none) → is_new d.journalWrites x ≡ true
+      new_id (Some id) n = new_second d.journalWrites id (rows_new (interval_rows d.journalWrites) level id (n id refl))
+      new_id None n = new_none d.journalWrites
 
       asked : has_room 16 d.journalWrites.count (rows_for (contiguous_journal_interval g v)) d.journalWrites.ids ≡ true → second_fits (contiguous_journal_interval g v) id1 id2 ≡ true
           → RecvWriteJournalAsked g d.journalWrites id1 id2 v
@@ -219,7 +206,7 @@ module _ (g : Geometry) (d : Disk) (id1 : ℕ) (id2 : MaybeId) (v : JournalInter
             second = s;
           }
 
-module _ (g : Geometry) (d : Disk) (id1 : ℕ) (id2 : MaybeId) (start : ℕ) (new blocks marks : List ℕ) where
+module _ (g : Geometry) (d : Disk) (id1 : ℕ) (id2 : code.Option ℕ) (start : ℕ) (new blocks marks : List ℕ) where
   -- the blocks and the marks after a write that is done
   written_memory : ask_write_journal g d id1 id2 start new blocks marks ≡ 0
       → disk_of g (recv_write_journal_blocks g d id1 id2 start new blocks marks) (recv_write_journal_marks g d id1 id2 start new blocks marks) (recv_write_journal g d id1 id2 start new blocks marks).disk
@@ -230,10 +217,10 @@ module _ (g : Geometry) (d : Disk) (id1 : ℕ) (id2 : MaybeId) (start : ℕ) (ne
       disk_of g (unless_done q blocks (update_bytes blocks (new_interval start new) new) e i) (unless_done q marks (update_marks marks (new_interval start new)) e i)
       (asked_done q (recv_write_journal_next g d id1 id2 (new_interval start new)) d e i).disk
 
-  pub recv_write_journal_sound : SizedDisk d → (recv_write_journal g d id1 id2 start new blocks marks).answer ≡ answer.Done
+  pub recv_write_journal_sound : SizedDisk d → (recv_write_journal g d id1 id2 start new blocks marks).answer ≡ Ok record {}
       → DiskAllowed g limits (disk_of g blocks marks d)
       (disk_of g (recv_write_journal_blocks g d id1 id2 start new blocks marks) (recv_write_journal_marks g d id1 id2 start new blocks marks) (recv_write_journal g d id1 id2 start new blocks marks).disk)
-      (Operation (ReqWriteJournalOp id1 (id_in id2) (write_of (new_interval start new) new)))
+      (Operation (ReqWriteJournalOp id1 (option_of id2) (write_of (new_interval start new) new)))
   recv_write_journal_sound z e =
       let r : ℕ = ask_new_blocks g d.journalWrites id1 id2 (new_interval start new) new in
       let e0 = done_asked (ask_write_journal g d id1 id2 start new blocks marks) (recv_write_journal_next g d id1 id2 (new_interval start new)) d e in
@@ -241,14 +228,14 @@ module _ (g : Geometry) (d : Disk) (id1 : ℕ) (id2 : MaybeId) (start : ℕ) (ne
       record {
         meets = m.meets;
         step =
-            subst (λ (x : D.Variables). D.RecvWriteJournal g (disk_of g blocks marks d) x id1 (id_in id2) (write_of (new_interval start new) new)) (sym (written_memory e0))
+            subst (λ (x : D.Variables). D.RecvWriteJournal g (disk_of g blocks marks d) x id1 (option_of id2) (write_of (new_interval start new) new)) (sym (written_memory e0))
             (write_clauses g d id1 id2 (new_interval start new) new blocks marks z m (and_then_right (ask_disk g d blocks marks) r e0));
       }
 
   pub recv_write_journal_complete : SizedDisk d → DiskTables d → Lent g blocks marks → length new ≡ length new / 4096 * 4096 → (s' : D.Variables)
-      → DiskAllowed g limits (disk_of g blocks marks d) s' (Operation (ReqWriteJournalOp id1 (id_in id2) (write_of (new_interval start new) new)))
-      → DiskWithin g limits s' (Operation (ReqWriteJournalOp id1 (id_in id2) (write_of (new_interval start new) new)))
-      → ((recv_write_journal g d id1 id2 start new blocks marks).answer ≡ answer.Done)
+      → DiskAllowed g limits (disk_of g blocks marks d) s' (Operation (ReqWriteJournalOp id1 (option_of id2) (write_of (new_interval start new) new)))
+      → DiskWithin g limits s' (Operation (ReqWriteJournalOp id1 (option_of id2) (write_of (new_interval start new) new)))
+      → ((recv_write_journal g d id1 id2 start new blocks marks).answer ≡ Ok record {})
       × (disk_of g (recv_write_journal_blocks g d id1 id2 start new blocks marks) (recv_write_journal_marks g d id1 id2 start new blocks marks) (recv_write_journal g d id1 id2 start new blocks marks).disk
       ≡ s')
   recv_write_journal_complete z t l h s' a w =
@@ -258,11 +245,11 @@ module _ (g : Geometry) (d : Disk) (id1 : ℕ) (id2 : MaybeId) (start : ℕ) (ne
       let e0 : ask_write_journal g d id1 id2 start new blocks marks ≡ 0 = met_asks g blocks marks d z r t l a.meets e in (
         ap (λ (x : DiskStepped). x.answer) (asked_done (ask_write_journal g d id1 id2 start new blocks marks) (recv_write_journal_next g d id1 id2 v) d e0),
         written_memory e0
-            ∙ recv_write_journal_one g (disk_of g blocks marks d) (disk_of g (update_bytes blocks v new) (update_marks marks v) (recv_write_journal_next g d id1 id2 v)) s' id1 (id_in id2) (write_of v new)
+            ∙ recv_write_journal_one g (disk_of g blocks marks d) (disk_of g (update_bytes blocks v new) (update_marks marks v) (recv_write_journal_next g d id1 id2 v)) s' id1 (option_of id2) (write_of v new)
             (write_clauses g d id1 id2 v new blocks marks z (asks_met g blocks marks d z r e0) e) a.step,
       )
 
-  pub recv_write_journal_refused : (n : ℕ) → (recv_write_journal g d id1 id2 start new blocks marks).answer ≡ answer.Refused n
+  pub recv_write_journal_refused : (n : Refusal) → (recv_write_journal g d id1 id2 start new blocks marks).answer ≡ Err n
       → ((recv_write_journal g d id1 id2 start new blocks marks).disk ≡ d) × (recv_write_journal_blocks g d id1 id2 start new blocks marks ≡ blocks)
       × (recv_write_journal_marks g d id1 id2 start new blocks marks ≡ marks)
   recv_write_journal_refused n e =
@@ -296,16 +283,16 @@ module _ (g : Geometry) (d : Disk) (id : ℕ) (blocks marks : List ℕ) where
       asks_ack_write_journal d.journalWrites id
       (rows_known (interval_rows d.journalWrites) (level_intervals d.journalWrites z.journal_writes_is) id a.ind a.waiting)
 
-  pub ack_write_journal_sound : SizedDisk d → (ack_write_journal g d id blocks marks).answer ≡ answer.Done
+  pub ack_write_journal_sound : SizedDisk d → (ack_write_journal g d id blocks marks).answer ≡ Ok record {}
       → DiskAllowed g limits (disk_of g blocks marks d) (disk_of g blocks marks (ack_write_journal g d id blocks marks).disk) (Operation (RespWriteJournalOp id))
   ack_write_journal_sound z e =
       sound_by g blocks marks d z (ask_ack_write_journal d.journalWrites id) (ack_write_journal_next d id) (Operation (RespWriteJournalOp id)) e (λ e0 m. ack_write_clauses z m.tables e0)
 
   pub ack_write_journal_complete : SizedDisk d → DiskTables d → Lent g blocks marks → (s' : D.Variables) → DiskAllowed g limits (disk_of g blocks marks d) s' (Operation (RespWriteJournalOp id))
-      → ((ack_write_journal g d id blocks marks).answer ≡ answer.Done) × (disk_of g blocks marks (ack_write_journal g d id blocks marks).disk ≡ s')
+      → ((ack_write_journal g d id blocks marks).answer ≡ Ok record {}) × (disk_of g blocks marks (ack_write_journal g d id blocks marks).disk ≡ s')
   ack_write_journal_complete z t l s' a =
       complete_by g blocks marks d z (ask_ack_write_journal d.journalWrites id) (ack_write_journal_next d id) s' t l a.meets (clauses_ack_write z s' a.step)
       (write_answered z.journal_writes_is t ∙ sym a.step.next)
 
-  pub ack_write_journal_refused : (n : ℕ) → (ack_write_journal g d id blocks marks).answer ≡ answer.Refused n → (ack_write_journal g d id blocks marks).disk ≡ d
+  pub ack_write_journal_refused : (n : Refusal) → (ack_write_journal g d id blocks marks).answer ≡ Err n → (ack_write_journal g d id blocks marks).disk ≡ d
   ack_write_journal_refused n e = refused_same (and_then (ask_disk g d blocks marks) (ask_ack_write_journal d.journalWrites id)) (ack_write_journal_next d id) d n e

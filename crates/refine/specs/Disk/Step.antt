@@ -1,7 +1,7 @@
 -- One step over the whole disk operation type, against 001's Next. Every step that is taken is allowed; every operation that is allowed from a
 -- disk that meets question 2, within the limits, is taken by the call that says it, and the view of the next disk is its next state; a refusal
 -- leaves the disk and lent memory.
-use Rattle.std.specs.Prelude.{ℕ, ◌*◌, Bool, ◌≡◌, refl, length}
+use Rattle.std.specs.Prelude.{ℕ, ◌*◌, Bool, ◌≡◌, refl, length, Ok, Err}
 use Rattle.std.proofs.Math.Path.{sym, subst}
 use Rattle.std.proofs.Common.{◌∙◌, ap}
 use mathlib.Core.List.{List, []}
@@ -9,15 +9,14 @@ use Rattle.std.proofs.Math.Option.{Option, none, some}
 use Rattle.laws.specs.Choice.{and_then_left, and_then_right, and_then_both, unless_done, unless_kept}
 use Rattle.laws.specs.Cut.{flat}
 use Rattle.laws.specs.Sets.{is_key}
+use Rattle.laws.specs.Optional.{optional, option_of, option_of_optional}
+use Rattle.refusal.specs.declared.Refusal.{Refusal}
 use Rattle.layout.specs.declared.Geometry.{Geometry}
 use Rattle.interval.specs.Interval.{interval}
 use Rattle.superblock.specs.declared.DiskOp.{DiskOp}
 use Rattle.superblock.specs.declared.DiskOp.TheVariants as op
-use Rattle.superblock.specs.declared.MaybeId.{MaybeId}
-use Rattle.superblock.specs.declared.MaybeId.TheVariants as maybe
 use Rattle.superblock.specs.declared.JournalRead.{JournalRead}
 use Rattle.superblock.specs.declared.JournalRead.TheVariants as journal_read
-use Rattle.superblock.specs.declared.Superblock.{Superblock}
 use Rattle.journal.specs.Asked.{blocks_asked, asked_blocks}
 use Rattle.journal.specs.Blocks.{flat_size, blocks_flat}
 use Rattle.codec.specs.Codec.{JournalRange}
@@ -28,8 +27,7 @@ use Rattle.source.specs.Meets.{DiskMeets}
 use Rattle.source.specs.Within.{Operation, DiskAllowed, DiskWithin, WholeBlocks}
 use Rattle.source.proofs.Laws.Unique.{disk_next_one}
 use Rattle.disk.specs.declared.Disk.{Disk}
-use Rattle.disk.specs.declared.DiskStepped.{DiskStepped}
-use Rattle.disk.specs.declared.DiskAnswer.TheVariants as answer
+use Rattle.disk.specs.Disk.{DiskStepped}
 use Rattle.disk.specs.Questions.{ask_disk_out}
 use Rattle.requests.specs.Acknowledge.{held_interval, ask_ack_read_journal}
 use Rattle.disk.specs.Memory.{read_out}
@@ -42,31 +40,26 @@ use Rattle.disk.specs.Laws.Questions.{out_disk, out_blocks, asks_out}
 use Rattle.refine.specs.Disk.View.{disk_of, SizedDisk, DiskTables, Lent}
 use Rattle.refine.specs.Disk.Meets.{Met, disk_met, met_disk}
 use Rattle.refine.specs.Disk.SuperblockReads as SuperblockReads
-use Rattle.refine.specs.Disk.SuperblockReads.{read_in, read_of}
 use Rattle.refine.specs.Disk.JournalReads as JournalReads
 use Rattle.refine.specs.Disk.JournalReads.{blocks_read}
 use Rattle.refine.specs.Disk.SuperblockWrites as SuperblockWrites
 use Rattle.refine.specs.Disk.SuperblockWrites.{request_of}
 use Rattle.refine.specs.Disk.JournalWrites as JournalWrites
-use Rattle.refine.specs.Disk.JournalWrites.{id_in, write_of}
+use Rattle.refine.specs.Disk.JournalWrites.{write_of}
 
 -- an operation as the source has it: `new` has a write's blocks, and `out`, as the step leaves it, a read's
 abbrev pub operation_of : Disk → DiskOp → List ℕ → List ℕ → D.DiskOp
 operation_of d (op.ReqReadSuperblock id which) new out = ReqReadSuperblockOp id (bit_of which)
 operation_of d (op.ReqReadJournal id v) new out = ReqReadJournalOp id v
 operation_of d (op.ReqWriteSuperblock id which superblock) new out = ReqWriteSuperblockOp id (bit_of which) (request_of superblock)
-operation_of d (op.ReqWriteJournal id1 id2 start count) new out = ReqWriteJournalOp id1 (id_in id2) (write_of (interval start count) new)
-operation_of d (op.RespReadSuperblock id which superblock) new out = RespReadSuperblockOp id (bit_of which) (read_in superblock)
+operation_of d (op.ReqWriteJournal id1 id2 start count) new out = ReqWriteJournalOp id1 (option_of id2) (write_of (interval start count) new)
+operation_of d (op.RespReadSuperblock id which superblock) new out = RespReadSuperblockOp id (bit_of which) (option_of superblock)
 operation_of d (op.RespReadJournal id journal) new out = RespReadJournalOp id (blocks_read (is_whole journal) (held_interval d.journalReads id) out)
 operation_of d (op.RespWriteSuperblock id which) new out = RespWriteSuperblockOp id (bit_of which)
 operation_of d (op.RespWriteJournal id) new out = RespWriteJournalOp id
 operation_of d op.NoDiskOp new out = NoDiskOp
 
 -- and the call that says what the source has: the operation, and a write's blocks as bytes
-abbrev pub maybe_id : Option ℕ → MaybeId
-maybe_id (some id) = maybe.Id id
-maybe_id none = maybe.NoId
-
 abbrev pub journal_read_of : Option JournalRange → JournalRead
 journal_read_of (some jr) = journal_read.Whole
 journal_read_of none = journal_read.Damaged
@@ -75,8 +68,8 @@ abbrev pub call_of : D.DiskOp → DiskOp
 call_of (ReqReadSuperblockOp id which) = op.ReqReadSuperblock id (which_of which)
 call_of (ReqReadJournalOp id v) = op.ReqReadJournal id v
 call_of (ReqWriteSuperblockOp id which req) = op.ReqWriteSuperblock id (which_of which) req.superblock
-call_of (ReqWriteJournalOp id1 id2 req) = op.ReqWriteJournal id1 (maybe_id id2) req.start (length req.journal)
-call_of (RespReadSuperblockOp id which superblock) = op.RespReadSuperblock id (which_of which) (read_of superblock)
+call_of (ReqWriteJournalOp id1 id2 req) = op.ReqWriteJournal id1 (optional id2) req.start (length req.journal)
+call_of (RespReadSuperblockOp id which superblock) = op.RespReadSuperblock id (which_of which) (optional superblock)
 call_of (RespReadJournalOp id journal) = op.RespReadJournal id (journal_read_of journal)
 call_of (RespWriteSuperblockOp id which) = op.RespWriteSuperblock id (which_of which)
 call_of (RespWriteJournalOp id) = op.RespWriteJournal id
@@ -92,14 +85,6 @@ new_of (RespReadJournalOp id journal) = []
 new_of (RespWriteSuperblockOp id which) = []
 new_of (RespWriteJournalOp id) = []
 new_of NoDiskOp = []
-
-id_there : (o : Option ℕ) → id_in (maybe_id o) ≡ o
-id_there (some id) = refl
-id_there none = refl
-
-read_there : (o : Option Superblock) → read_in (read_of o) ≡ o
-read_there (some s) = refl
-read_there none = refl
 
 whole_there : (o : Option JournalRange) → is_whole (journal_read_of o) ≡ is_key o
 whole_there (some jr) = whole_is
@@ -133,10 +118,10 @@ module _ (g : Geometry) (blocks marks out : List ℕ) (d : Disk) where
       SuperblockWrites.clauses_recv_write g d (which_of which) blocks marks id req.superblock (which_in which) s'
       (asks_by which (λ (x : Bool). D.RecvWriteSuperblock (disk_of g blocks marks d) s' id x req) a)
   clauses_operation z t l m s' (ReqWriteJournalOp id1 id2 req) a b w =
-      JournalWrites.clauses_write g d id1 (maybe_id id2) (interval req.start (length req.journal)) (flat req.journal) blocks marks z t
+      JournalWrites.clauses_write g d id1 (optional id2) (interval req.start (length req.journal)) (flat req.journal) blocks marks z t
       (flat_size (length req.journal) req.journal b) s'
       (subst (λ (x : Option ℕ × JournalRange). D.RecvWriteJournal g (disk_of g blocks marks d) s' id1 x.0 (record { start = req.start; journal = x.1 }))
-      (λ i. (sym (id_there id2) i, sym (blocks_flat (length req.journal) req.journal b) i)) a)
+      (λ i. (sym (option_of_optional id2) i, sym (blocks_flat (length req.journal) req.journal b) i)) a)
       w.journal_writes_few
   clauses_operation z t l m s' (RespReadSuperblockOp id which superblock) a b w =
       SuperblockReads.clauses_read_as g d (which_of which) id blocks marks (which_in which) superblock s'
@@ -155,8 +140,8 @@ module _ (g : Geometry) (blocks marks out : List ℕ) (d : Disk) where
   said z l m h s' (ReqReadJournalOp id v) a b = refl
   said z l m h s' (ReqWriteSuperblockOp id which req) a b = ap (λ (x : Bool). ReqWriteSuperblockOp id x req) (bit_which which)
   said z l m h s' (ReqWriteJournalOp id1 id2 req) a b =
-      λ i. ReqWriteJournalOp id1 (id_there id2 i) (record { start = req.start; journal = blocks_flat (length req.journal) req.journal b i })
-  said z l m h s' (RespReadSuperblockOp id which superblock) a b = λ i. RespReadSuperblockOp id (bit_which which i) (read_there superblock i)
+      λ i. ReqWriteJournalOp id1 (option_of_optional id2 i) (record { start = req.start; journal = blocks_flat (length req.journal) req.journal b i })
+  said z l m h s' (RespReadSuperblockOp id which superblock) a b = λ i. RespReadSuperblockOp id (bit_which which i) (option_of_optional superblock i)
   said z l m h s' (RespReadJournalOp id journal) a b =
       ap (λ (x : Bool). RespReadJournalOp id (blocks_read x (held_interval d.journalReads id) (read_out x (held_interval d.journalReads id) blocks out))) (whole_there journal)
       ∙ ap (RespReadJournalOp id) (JournalReads.content_read g d id blocks marks out z l m journal s' a h)
@@ -176,7 +161,7 @@ module _ (g : Geometry) (blocks marks out : List ℕ) (d : Disk) where
     stepped e =
         λ i. disk_of g (unless_done q blocks (operation_blocks o new blocks) e i) (unless_done q marks (operation_marks o marks) e i) (asked_done q (operation_next g d o) d e i).disk
 
-    pub step_sound : SizedDisk d → (step g d o new blocks marks out).answer ≡ answer.Done
+    pub step_sound : SizedDisk d → (step g d o new blocks marks out).answer ≡ Ok record {}
         → DiskAllowed g limits (disk_of g blocks marks d)
         (disk_of g (step_blocks g d o new blocks marks out) (step_marks g d o new blocks marks out) (step g d o new blocks marks out).disk)
         (Operation (operation_of d o new (step_out g d o new blocks marks out)))
@@ -196,7 +181,7 @@ module _ (g : Geometry) (blocks marks out : List ℕ) (d : Disk) where
               (λ i. (sym (stepped e0) i, sym (unless_done q out (operation_out d o blocks out) e0) i)) c;
         }
 
-    pub step_refused : (n : ℕ) → (step g d o new blocks marks out).answer ≡ answer.Refused n
+    pub step_refused : (n : Refusal) → (step g d o new blocks marks out).answer ≡ Err n
         → ((step g d o new blocks marks out).disk ≡ d) × (step_blocks g d o new blocks marks out ≡ blocks) × (step_marks g d o new blocks marks out ≡ marks)
         × (step_out g d o new blocks marks out ≡ out)
     unfolding q
@@ -210,7 +195,7 @@ module _ (g : Geometry) (blocks marks out : List ℕ) (d : Disk) where
 
   pub step_complete : SizedDisk d → DiskTables d → Lent g blocks marks → length out ≡ g.blocks * 4096 → (o : D.DiskOp) (s' : D.Variables)
       → DiskAllowed g limits (disk_of g blocks marks d) s' (Operation o) → DiskWithin g limits s' (Operation o)
-      → ((step g d (call_of o) (new_of o) blocks marks out).answer ≡ answer.Done)
+      → ((step g d (call_of o) (new_of o) blocks marks out).answer ≡ Ok record {})
       × (disk_of g (step_blocks g d (call_of o) (new_of o) blocks marks out) (step_marks g d (call_of o) (new_of o) blocks marks out) (step g d (call_of o) (new_of o) blocks marks out).disk ≡ s')
       × (operation_of d (call_of o) (new_of o) (step_out g d (call_of o) (new_of o) blocks marks out) ≡ o)
   step_complete z t l h o s' a w =

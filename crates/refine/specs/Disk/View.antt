@@ -1,12 +1,11 @@
 -- The view: the disk's record and its lent blocks and marks as source 001's state. What the record and the memory add to it, which a set or a
 -- map cannot say, stands in records of its own.
-use Rattle.std.specs.Prelude.{ℕ, ◌≤◌, List, length, take}
+use Rattle.std.specs.Prelude.{ℕ, ◌≤◌, List, length, take, None, Some}
+use Rattle.std.specs.declared.option.Option as code
 use Rattle.std.proofs.Math.Option.{Option, none, some}
 use Rattle.laws.specs.Sets.{Distinct, each_of}
+use Rattle.laws.specs.Optional.{option_of}
 use Rattle.layout.specs.declared.Geometry.{Geometry}
-use Rattle.superblock.specs.declared.Superblock.{Superblock}
-use Rattle.superblock.specs.declared.MaybeSuperblock.{MaybeSuperblock}
-use Rattle.superblock.specs.declared.MaybeSuperblock.TheVariants as slot
 use Rattle.journal.specs.Asked.{Blocks, Marks}
 use Rattle.journal.specs.Cells.{cells}
 use Rattle.tables.specs.IdTable.{id_set, SizedIds}
@@ -14,27 +13,22 @@ use Rattle.tables.specs.IntervalTable.{interval_map, SizedIntervals}
 use Rattle.source.specs.JournalDisk as D
 use Rattle.source.specs.JournalDisk.{ReqWriteSuperblockId}
 use Rattle.requests.specs.declared.SuperblockWrite.{SuperblockWrite}
-use Rattle.requests.specs.declared.SuperblockWrite.TheVariants as write
 use Rattle.disk.specs.declared.Disk.{Disk}
-use Rattle.requests.specs.Laws.Pairs.{slot_pair, read_pair, write_pair}
+use Rattle.requests.specs.Laws.Pairs.{slot_pair}
 
--- what a slot holds, and a write in flight
-abbrev pub superblock_in : MaybeSuperblock → Option Superblock
-superblock_in (slot.Holds s) = some s
-superblock_in slot.Empty = none
-
-abbrev pub write_in : SuperblockWrite → Option ReqWriteSuperblockId
-write_in (write.Writing id s) = some (record { id = id; req = record { superblock = s } })
-write_in write.NoWrite = none
+-- a write in flight
+abbrev pub write_in : code.Option SuperblockWrite → Option ReqWriteSuperblockId
+write_in (Some w) = some (record { id = w.id; req = record { superblock = w.superblock } })
+write_in None = none
 
 abbrev pub disk_of : Geometry → List ℕ → List ℕ → Disk → D.Variables
 disk_of g blocks marks d =
     record {
-      req_read_superblocks = each_of id_set (read_pair d.superblockReads);
+      req_read_superblocks = each_of id_set (slot_pair d.superblockReads);
       req_read_journals = interval_map d.journalReads;
-      req_write_superblocks = each_of write_in (write_pair d.superblockWrites);
+      req_write_superblocks = each_of write_in (slot_pair d.superblockWrites);
       req_write_journals = interval_map d.journalWrites;
-      superblocks = each_of superblock_in (slot_pair d.slots);
+      superblocks = each_of option_of (slot_pair d.slots);
       journal = cells g blocks marks;
     }
 

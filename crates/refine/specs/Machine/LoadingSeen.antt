@@ -1,14 +1,14 @@
 -- What the view tells of a slot, of a piece and of a pair, and how a read ends there.
-use Rattle.std.specs.Prelude.{Bool, true, false, cond, not, ◌≡◌, refl, [], eqb}
+use Rattle.std.specs.Prelude.{Bool, true, false, cond, not, ◌≡◌, refl, [], eqb, None, Some}
+use Rattle.std.specs.declared.option.Option as code
 use Rattle.std.proofs.Common.{ap}
 use Rattle.std.proofs.Math.Option.{Option, none, some}
 use Rattle.laws.specs.Choice.{ruin}
 use Rattle.laws.specs.Sets.{at, none_some}
+use Rattle.laws.specs.Optional.{option_of}
 use Rattle.layout.specs.declared.Geometry.{Geometry}
 use Rattle.interval.specs.declared.JournalInterval.{JournalInterval}
 use Rattle.superblock.specs.declared.Superblock.{Superblock}
-use Rattle.superblock.specs.declared.SuperblockRead.{SuperblockRead}
-use Rattle.superblock.specs.declared.SuperblockRead.TheVariants as read
 use Rattle.superblock.specs.Superblock.{journal_front_interval_of_superblock, journal_back_interval_of_superblock, wf_superblock}
 use Rattle.codec.specs.Codec.{JournalRange}
 use Rattle.source.specs.JournalDisk.{ReqId}
@@ -20,7 +20,7 @@ use Rattle.loading.specs.declared.Piece.TheVariants as piece
 use Rattle.loading.specs.Slots.{slot_read}
 use Rattle.loading.specs.Pieces.{without_read}
 use Rattle.loading.specs.Laws.Other.{There}
-use Rattle.refine.specs.Machine.LoadingView.{two, outstanding_read, read_result, superblock_in, awaited_read, loaded_piece}
+use Rattle.refine.specs.Machine.LoadingView.{two, outstanding_read, read_result, awaited_read, loaded_piece}
 
 -- A pair's place by a number, and the other
 
@@ -59,21 +59,21 @@ unasked_of (slot.Success superblock) p q = ruin (cc)
 unasked_of slot.Corruption p q = ruin (cc)
 
 -- how a read ends
-pub ended_none : (g : Geometry) (r : SuperblockRead) → outstanding_read (slot_read g r) ≡ none
-ended_none g (read.Whole superblock) = go (wf_superblock g superblock)
+pub ended_none : (g : Geometry) (r : code.Option Superblock) → outstanding_read (slot_read g r) ≡ none
+ended_none g (Some superblock) = go (wf_superblock g superblock)
   where
     go : (b : Bool) → outstanding_read (cond b (slot.Success superblock) slot.Corruption) ≡ none
     go true = refl
     go false = refl
-ended_none g read.Damaged = refl
+ended_none g None = refl
 
-pub ended_result : (g : Geometry) (r : SuperblockRead) → read_result (slot_read g r) ≡ superblock_read g (superblock_in r)
-ended_result g (read.Whole superblock) = go (wf_superblock g superblock)
+pub ended_result : (g : Geometry) (r : code.Option Superblock) → read_result (slot_read g r) ≡ superblock_read g (option_of r)
+ended_result g (Some superblock) = go (wf_superblock g superblock)
   where
     go : (b : Bool) → read_result (cond b (slot.Success superblock) slot.Corruption) ≡ cond b (SuperblockSuccess superblock) SuperblockCorruption
     go true = refl
     go false = refl
-ended_result g read.Damaged = refl
+ended_result g None = refl
 
 -- A piece
 

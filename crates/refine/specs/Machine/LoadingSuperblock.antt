@@ -2,15 +2,16 @@
 -- 01 departs. Sound: what is taken is what the predicate says of the views. Complete: what the predicate allows is taken, and leads to the
 -- view of the next record.
 use Rattle.std.specs.Prelude.{ℕ, ◌≤◌, Bool, true, false, cond, not, ◌≡◌, refl, List, ◌⊎◌}
+use Rattle.std.specs.declared.option.Option as code
 use Rattle.std.proofs.Math.Path.{sym, ap}
 use Rattle.std.proofs.Common.{◌∙◌, inr}
 use Rattle.std.proofs.Math.Option.{Option, none, some}
 use Rattle.std.proofs.Math.Logic.{inl}
 use Rattle.laws.specs.Choice.{split_bool, true_false, not_so}
 use Rattle.laws.specs.Sets.{Map, no_keys, Two, at, put, put_at}
+use Rattle.laws.specs.Optional.{option_of}
 use Rattle.layout.specs.declared.Geometry.{Geometry}
 use Rattle.superblock.specs.declared.Superblock.{Superblock}
-use Rattle.superblock.specs.declared.SuperblockRead.{SuperblockRead}
 use Rattle.superblock.specs.Laws.{WFSuperblock}
 use Rattle.source.specs.JournalDisk.{ReqId, DiskOp, ReqReadSuperblockOp, RespReadSuperblockOp, NoDiskOp}
 use Rattle.source.specs.JournalCache as M
@@ -26,7 +27,7 @@ use Rattle.loading.specs.Other.{selected_other}
 use Rattle.loading.specs.Superblocks.{slots, initial, loading_superblock_ok, slot_at, other_slot, to_slot, ask_page_in_superblock_req, page_in_superblock_req_next, superblock_awaited, page_in_superblock_resp_next, ask_finish_loading_superblock_phase, finish_loading_superblock_phase_next, ask_ask_again, ask_again_next}
 use Rattle.loading.specs.Laws.Superblocks.{LoadingSuperblockOk, loading_superblock_facts, facts_loading_superblock, page_in_superblock_req_asked, asked_page_in_superblock_req, superblock_awaited_is, is_superblock_awaited, resp_awaited, resp_unawaited, FinishLoadingSuperblockPhaseAsked, finish_loading_superblock_phase_asked, asked_finish_loading_superblock_phase, finished_selects, ask_again_asked, asked_ask_again}
 use Rattle.refine.specs.Machine.LoadingSeen.{at_named, at_unnamed, outstanding_is, success_is, corruption_is, unasked_of, ended_none, ended_result}
-use Rattle.refine.specs.Machine.LoadingView.{outstanding_read, read_result, loading_superblock_of, superblocks_seen, LoadingSuperblockMeets, superblock_in, loading_other_of, other_seen}
+use Rattle.refine.specs.Machine.LoadingView.{outstanding_read, read_result, loading_superblock_of, superblocks_seen, LoadingSuperblockMeets, loading_other_of, other_seen}
 
 module _ (s : LoadingSuperblock) (y : Map SyncReqStatus) where
   abbrev reads : Two (Option ReqId)
@@ -144,12 +145,12 @@ module _ (s : LoadingSuperblock) (y : Map SyncReqStatus) where
 
   -- PageInSuperblockResp: an answer that nobody awaits is a NoOp
 
-  module _ (g : Geometry) (which id : ℕ) (r : SuperblockRead) where
+  module _ (g : Geometry) (which id : ℕ) (r : code.Option Superblock) where
     resp_next : superblock_awaited s which id ≡ true
         → superblocks_seen (page_in_superblock_resp_next g s which id r) y
         ≡ Variables.LoadingSuperblock
         (M.to_outstanding_superblock_reads (put reads (is_second which) none)
-        (M.to_superblocks (put results (is_second which) (superblock_read g (superblock_in r))) (loading_superblock_of s y)))
+        (M.to_superblocks (put results (is_second which) (superblock_read g (option_of r))) (loading_superblock_of s y)))
     resp_next e =
         ap Variables.LoadingSuperblock
         (ap (λ (x : LoadingSuperblock). loading_superblock_of x y) (resp_awaited s which id g r e)
@@ -171,35 +172,35 @@ module _ (s : LoadingSuperblock) (y : Map SyncReqStatus) where
     unawaited f = not_so (superblock_awaited s which id) (λ e. f (waiting e))
 
     pub page_in_superblock_resp_sound :
-        PageInSuperblockResp g (superblocks_seen s y) (superblocks_seen (page_in_superblock_resp_next g s which id r) y) (RespReadSuperblockOp id (is_second which) (superblock_in r)) (is_second which)
-        ⊎ NoOp⁺ (superblocks_seen s y) (superblocks_seen (page_in_superblock_resp_next g s which id r) y) (RespReadSuperblockOp id (is_second which) (superblock_in r))
+        PageInSuperblockResp g (superblocks_seen s y) (superblocks_seen (page_in_superblock_resp_next g s which id r) y) (RespReadSuperblockOp id (is_second which) (option_of r)) (is_second which)
+        ⊎ NoOp⁺ (superblocks_seen s y) (superblocks_seen (page_in_superblock_resp_next g s which id r) y) (RespReadSuperblockOp id (is_second which) (option_of r))
     page_in_superblock_resp_sound =
         split_bool (superblock_awaited s which id)
-        (λ e. inl (record { id = id; superblock = superblock_in r; op = refl; waiting = waiting e; next = resp_next e }))
+        (λ e. inl (record { id = id; superblock = option_of r; op = refl; waiting = waiting e; next = resp_next e }))
         (λ e.
         inr
         (record {
           source =
               record {
-                op = M.NoOpOp.superblock_read_op id (is_second which) (superblock_in r) refl;
+                op = M.NoOpOp.superblock_read_op id (is_second which) (option_of r) refl;
                 next = ap (λ (x : LoadingSuperblock). superblocks_seen x y) (resp_unawaited s which id g r e);
               };
           unawaited = λ w. true_false (sym (awaited w) ∙ e);
         }))
 
     pub page_in_superblock_resp_complete : (s' : Variables)
-        → PageInSuperblockResp g (superblocks_seen s y) s' (RespReadSuperblockOp id (is_second which) (superblock_in r)) (is_second which)
-        ⊎ NoOp⁺ (superblocks_seen s y) s' (RespReadSuperblockOp id (is_second which) (superblock_in r))
+        → PageInSuperblockResp g (superblocks_seen s y) s' (RespReadSuperblockOp id (is_second which) (option_of r)) (is_second which)
+        ⊎ NoOp⁺ (superblocks_seen s y) s' (RespReadSuperblockOp id (is_second which) (option_of r))
         → s' ≡ superblocks_seen (page_in_superblock_resp_next g s which id r) y
     page_in_superblock_resp_complete s' (inl h) =
         h.next
         ∙ ap (λ (o : Option Superblock). Variables.LoadingSuperblock (M.to_outstanding_superblock_reads (put reads (is_second which) none) (M.to_superblocks (put results (is_second which) (superblock_read g o)) (loading_superblock_of s y)))) (same_read h.id h.superblock h.op)
         ∙ sym (resp_next (awaited (h.waiting ∙ ap some (same_id h.id h.superblock h.op))))
       where
-        same_id : (k : ReqId) (o : Option Superblock) → RespReadSuperblockOp id (is_second which) (superblock_in r) ≡ RespReadSuperblockOp k (is_second which) o → k ≡ id
+        same_id : (k : ReqId) (o : Option Superblock) → RespReadSuperblockOp id (is_second which) (option_of r) ≡ RespReadSuperblockOp k (is_second which) o → k ≡ id
         same_id k o q = cc
 
-        same_read : (k : ReqId) (o : Option Superblock) → RespReadSuperblockOp id (is_second which) (superblock_in r) ≡ RespReadSuperblockOp k (is_second which) o → o ≡ superblock_in r
+        same_read : (k : ReqId) (o : Option Superblock) → RespReadSuperblockOp id (is_second which) (option_of r) ≡ RespReadSuperblockOp k (is_second which) o → o ≡ option_of r
         same_read k o q = cc
     page_in_superblock_resp_complete s' (inr h) =
         h.source.next

@@ -6,8 +6,6 @@ use Rattle.laws.specs.Cut.{cut}
 use Rattle.laws.specs.Sets.{Map, Two, at}
 use Rattle.layout.specs.declared.Geometry.{Geometry}
 use Rattle.superblock.specs.declared.Superblock.{Superblock}
-use Rattle.superblock.specs.declared.SuperblockRead.{SuperblockRead}
-use Rattle.superblock.specs.declared.SuperblockRead.TheVariants as superblock_read
 use Rattle.codec.specs.Codec.{JournalRange}
 use Rattle.source.specs.JournalDisk.{ReqId}
 use Rattle.source.specs.JournalCache.{SyncReqStatus, SuperblockReadResult, SuperblockSuccess, SuperblockUnfinished, SuperblockCorruption, LoadingOtherVariables, LoadingSuperblockVariables, Variables, InvLoadingOther, InvLoadingSuperblock}
@@ -56,11 +54,6 @@ superblocks_seen s sync_reqs = Variables.LoadingSuperblock (loading_superblock_o
 pub record LoadingSuperblockMeets (g : Geometry) (s : LoadingSuperblock) (sync_reqs : Map SyncReqStatus) : Type 0 where
   pub inv : InvLoadingSuperblock g (loading_superblock_of s sync_reqs)
   pub reads_differ : ReadsDiffer (loading_superblock_of s sync_reqs).outstanding_superblock_reads
-
--- what an answer brings
-abbrev pub superblock_in : SuperblockRead → Option Superblock
-superblock_in (superblock_read.Whole superblock) = some superblock
-superblock_in superblock_read.Damaged = none
 
 -- Pieces of the journal: the id that is awaited, and the blocks of one that is in
 

@@ -1,5 +1,6 @@
 -- Both commit requests of a whole machine.
-use Rattle.std.specs.Prelude.{ℕ, ◌-◌, true, cond, ◌≡◌, refl, List, [], ◌∷◌, leb, length}
+use Rattle.std.specs.Prelude.{ℕ, ◌-◌, true, cond, ◌≡◌, refl, List, [], ◌∷◌, leb, length, None, Some, Ok}
+use Rattle.std.specs.declared.option.Option as code
 use Rattle.std.proofs.Math.Path.{sym, ap}
 use Rattle.std.proofs.Common.{◌∙◌, arith}
 use Rattle.laws.specs.Choice.{and_then_left, and_then_right, and_then_both, by_leb, ruin}
@@ -10,8 +11,6 @@ use Rattle.superblock.specs.declared.DiskOp.{DiskOp}
 use Rattle.tables.specs.SyncTable.{sync_map}
 use Rattle.codec.specs.Codec.{JournalEntry}
 use Rattle.codec.specs.Format.{format}
-use Rattle.ready.specs.declared.MaybeLocation.{MaybeLocation}
-use Rattle.ready.specs.declared.MaybeLocation.TheVariants.{NoLocation, Received}
 use Rattle.ready.specs.declared.Ready.{Ready}
 use Rattle.ready.specs.State.{is_received, none_in_memory}
 use Rattle.ready.specs.CommitSteps.{ask_advance_log, advanced_log, advance_log_next, ask_advance_location, advanced_location, advance_location_next}
@@ -23,7 +22,6 @@ use Rattle.source.specs.Limits.{limits}
 use Rattle.source.specs.Departures.{idle_sync, CommitReq⁺, Source}
 use Rattle.source.specs.Within.{MachineAllowed, MachineWithin}
 use Rattle.machine.specs.declared.Machine.{Machine}
-use Rattle.machine.specs.declared.MachineAnswer.TheVariants as answer
 use Rattle.machine.specs.declared.Kind.TheVariants as kind
 use Rattle.machine.specs.Machine.{ask_ready, with_ready}
 use Rattle.machine.specs.Lent.{Lent}
@@ -38,9 +36,9 @@ use Rattle.refine.specs.Machine.MachineWriting.{sent_syncs}
 use Rattle.refine.specs.Machine.MachineWork.{work_asked, asks_work, work_seen, work_form, work_out, work_step}
 
 -- the location that was received
-new_location_is : (q : MaybeLocation) (old : Location) → is_received q ≡ true → q ≡ Received (received_or q old)
-new_location_is NoLocation old e = ruin (cc)
-new_location_is (Received loc) old e = refl
+new_location_is : (q : code.Option Location) (old : Location) → is_received q ≡ true → q ≡ Some (received_or q old)
+new_location_is None old e = ruin (cc)
+new_location_is (Some loc) old e = refl
 
 -- none in memory, as a test of the counts and of the list
 by_empty : {A : Type 0} (es : List JournalEntry) (n k : ℕ) (x y : A) → length es ≡ n - k → if_none es x y ≡ cond (leb n k) x y
@@ -116,7 +114,7 @@ module _ (g : Geometry) (l : Lent) (m : Machine) where
       let k = work_out g l m (λ s. WriteBackSuperblockReq-AdvanceLocationClauses g s h.asked dop) h.source in
       let c = R.location_complete g (ready_lent l) (syncs_of m) m.ready (work_form g l m k.0 form) h.asked dop k.1 in
       let next = advance_location_next m.ready k.1.id (advanced_location g m.ready (new_location m)) in
-      let same : new_location m ≡ k.1.loc = ap (λ (q : MaybeLocation). received_or q m.ready.superblock.indirectionTableLoc) c.0 in (
+      let same : new_location m ≡ k.1.loc = ap (λ (q : code.Option Location). received_or q m.ready.superblock.indirectionTableLoc) c.0 in (
         k.1.id,
         and_then_both (ask_ready m) (ask_advance_location g m.ready) (asks_work m k.0) c.1,
         commit_synced k.0 form next
@@ -130,7 +128,7 @@ module _ (g : Geometry) (l : Lent) (m : Machine) where
 
 -- the whole steps
 module _ (g : Geometry) (l : Lent) (m : Machine) (z : SizedMachine m) where
-  pub log_sound : (id : ℕ) (o : DiskOp) → (advance_log g l m id).answer ≡ answer.Next o
+  pub log_sound : (id : ℕ) (o : DiskOp) → (advance_log g l m id).answer ≡ Ok o
       → MachineAllowed g format limits (machine_of g l m) (machine_of g l (advance_log g l m id).machine) (operation_of o []) (Source WriteBackSuperblockReq-AdvanceLog-Step)
   log_sound id o e =
       sound_same g l m z (ask_advance_log_step g m) (advance_log_op m id) (advance_log_machine m id) [] (Source WriteBackSuperblockReq-AdvanceLog-Step) o e
@@ -140,7 +138,7 @@ module _ (g : Geometry) (l : Lent) (m : Machine) (z : SizedMachine m) where
       → MachineAllowed g format limits (machine_of g l m) s' dop (Source WriteBackSuperblockReq-AdvanceLog-Step)
       → MachineWithin g limits (machine_of g l m) s' dop (Source WriteBackSuperblockReq-AdvanceLog-Step)
       → (id : ℕ)
-      × ((advance_log g l m id).answer ≡ answer.Next (advance_log_op m id))
+      × ((advance_log g l m id).answer ≡ Ok (advance_log_op m id))
       × (dop ≡ operation_of (advance_log_op m id) [])
       × (machine_of g l (advance_log g l m id).machine ≡ s')
   log_complete t form s' dop a within =
@@ -148,7 +146,7 @@ module _ (g : Geometry) (l : Lent) (m : Machine) (z : SizedMachine m) where
       let k = complete_same g l m z (ask_advance_log_step g m) (advance_log_op m c.0) (advance_log_machine m c.0) s' t form a.meets c.1 c.2 in
       (c.0, k.0, c.3, k.1)
 
-  pub location_sound : (id : ℕ) (o : DiskOp) → (advance_location g l m id).answer ≡ answer.Next o
+  pub location_sound : (id : ℕ) (o : DiskOp) → (advance_location g l m id).answer ≡ Ok o
       → MachineAllowed g format limits (machine_of g l m) (machine_of g l (advance_location g l m id).machine) (operation_of o []) (Source WriteBackSuperblockReq-AdvanceLocation-Step)
   location_sound id o e =
       sound_same g l m z (ask_advance_location_step g m) (advance_location_op g m id) (advance_location_machine g m id) [] (Source WriteBackSuperblockReq-AdvanceLocation-Step) o e
@@ -158,7 +156,7 @@ module _ (g : Geometry) (l : Lent) (m : Machine) (z : SizedMachine m) where
       → MachineAllowed g format limits (machine_of g l m) s' dop (Source WriteBackSuperblockReq-AdvanceLocation-Step)
       → MachineWithin g limits (machine_of g l m) s' dop (Source WriteBackSuperblockReq-AdvanceLocation-Step)
       → (id : ℕ)
-      × ((advance_location g l m id).answer ≡ answer.Next (advance_location_op g m id))
+      × ((advance_location g l m id).answer ≡ Ok (advance_location_op g m id))
       × (dop ≡ operation_of (advance_location_op g m id) [])
       × (machine_of g l (advance_location g l m id).machine ≡ s')
   location_complete t form s' dop a within =

@@ -1,5 +1,5 @@
 -- A commit's answer, WriteBackSuperblockResp, of a whole machine, in every kind: a commit awaits it, or nobody does.
-use Rattle.std.specs.Prelude.{ℕ, ◌≤◌, Bool, false, ◌≡◌, refl, [], ◌⊎◌}
+use Rattle.std.specs.Prelude.{ℕ, ◌≤◌, Bool, false, ◌≡◌, refl, [], ◌⊎◌, Ok}
 use Rattle.std.proofs.Math.Bool.{true, cond}
 use Rattle.std.proofs.Math.Path.{sym, ap, subst}
 use Rattle.std.proofs.Common.{◌∙◌, ⊎_elim, arith}
@@ -12,6 +12,7 @@ use Rattle.superblock.specs.declared.DiskOp.{DiskOp}
 use Rattle.codec.specs.Format.{format}
 use Rattle.tables.specs.SyncTable.{sync_map}
 use Rattle.loading.specs.Laws.Which.{asked_which}
+use Rattle.loading.specs.Which.{is_second}
 use Rattle.ready.specs.State.{awaits_id}
 use Rattle.ready.specs.CommitSteps.{write_back_superblock_resp_next}
 use Rattle.source.specs.JournalDisk as D
@@ -25,13 +26,12 @@ use Rattle.source.specs.Within.{MachineAllowed}
 use Rattle.source.proofs.Laws.Cases.{by_ready}
 use Rattle.machine.specs.declared.Kind.TheVariants as kind
 use Rattle.machine.specs.declared.Machine.{Machine}
-use Rattle.machine.specs.declared.MachineAnswer.TheVariants as answer
 use Rattle.machine.specs.Lent.{Lent}
 use Rattle.machine.specs.Questions.{ask_machine}
 use Rattle.machine.specs.Working.{syncs2to1, answered_sync, commit_answered, ask_write_back_superblock_resp_step, write_back_superblock_resp_op, write_back_superblock_resp_machine}
 use Rattle.machine.specs.Whole.{write_back_superblock_resp}
 use Rattle.machine.specs.Laws.Answers.{next_asked}
-use Rattle.refine.specs.Machine.ReadyView.{slot_of, ready_of}
+use Rattle.refine.specs.Machine.ReadyView.{ready_of}
 use Rattle.refine.specs.Machine.ReadyCases.{awaits_seen}
 use Rattle.refine.specs.Machine.ReadyCommit as R
 use Rattle.refine.specs.Machine.MachineView.{ready_lent, state_of, syncs_of, machine_of, operation_of, SizedMachine, MachineLent, MachineForm}
@@ -84,7 +84,7 @@ module _ (g : Geometry) (l : Lent) (m : Machine) (id : ℕ) where
     dop = operation_of (write_back_superblock_resp_op which id) []
 
     no_op_by : (AwaitsCommit → ⊥) → NoOp⁺ (machine_of g l m) (machine_of g l (write_back_superblock_resp_machine m id)) dop
-    no_op_by n = record { source = record { op = M.NoOpOp.superblock_written_is id (slot_of which) refl n; next = ap (machine_of g l) (unawaited_same n) }; unawaited = n }
+    no_op_by n = record { source = record { op = M.NoOpOp.superblock_written_is id (is_second which) refl n; next = ap (machine_of g l) (unawaited_same n) }; unawaited = n }
 
     pub superblock_resp_clauses : MachineForm l m
         → M.WriteBackSuperblockResp (machine_of g l m) (machine_of g l (write_back_superblock_resp_machine m id)) dop
@@ -106,7 +106,7 @@ module _ (g : Geometry) (l : Lent) (m : Machine) (id : ℕ) where
             (sym (work_taken m (commit_answered m id) k))
             (work_step g l l m (commit_answered m id) (λ s s'. WriteBackSuperblockRespClauses s s' dop) k (answered_kind k)
             (subst (λ (s' : Variables). WriteBackSuperblockRespClauses (work_of l m) s' dop) (answered_view e)
-            (R.superblock_resp_sound (ready_lent l) (syncs_of m) m.ready (work_form g l m k form).which_in id (slot_of which) e)))
+            (R.superblock_resp_sound (ready_lent l) (syncs_of m) m.ready (work_form g l m k form).which_in id (is_second which) e)))
 
     -- complete out of either
     pub clauses_superblock_resp : MachineForm l m → (s' : Variables) → M.WriteBackSuperblockResp (machine_of g l m) s' dop
@@ -139,7 +139,7 @@ superblock_resp_said s s' dop h =
 
 -- the whole step: a commit awaits it, or nobody does
 module _ (g : Geometry) (l : Lent) (m : Machine) (z : SizedMachine m) (which id : ℕ) where
-  pub superblock_resp_sound : (o : DiskOp) → (write_back_superblock_resp g l m which id).answer ≡ answer.Next o
+  pub superblock_resp_sound : (o : DiskOp) → (write_back_superblock_resp g l m which id).answer ≡ Ok o
       → MachineAllowed g format limits (machine_of g l m) (machine_of g l (write_back_superblock_resp g l m which id).machine) (operation_of o []) (Source WriteBackSuperblockRespStep)
       ⊎ MachineAllowed g format limits (machine_of g l m) (machine_of g l (write_back_superblock_resp g l m which id).machine) (operation_of o []) (Source NoOpStep)
   superblock_resp_sound o e =
@@ -152,14 +152,14 @@ module _ (g : Geometry) (l : Lent) (m : Machine) (z : SizedMachine m) (which id 
 
   module _ (t : MachineLent g l) (form : MachineForm l m) (w : which ≤ 1) (s' : Variables) where
     taken : MachineMeets g limits (machine_of g l m) → machine_of g l (write_back_superblock_resp_machine m id) ≡ s'
-        → ((write_back_superblock_resp g l m which id).answer ≡ answer.Next (write_back_superblock_resp_op which id)) × (machine_of g l (write_back_superblock_resp g l m which id).machine ≡ s')
+        → ((write_back_superblock_resp g l m which id).answer ≡ Ok (write_back_superblock_resp_op which id)) × (machine_of g l (write_back_superblock_resp g l m which id).machine ≡ s')
     taken meets e =
         complete_same g l m z (ask_write_back_superblock_resp_step which) (write_back_superblock_resp_op which id) (write_back_superblock_resp_machine m id) s' t form meets (asked_which which w) e
 
     pub superblock_resp_complete : MachineAllowed g format limits (machine_of g l m) s' (operation_of (write_back_superblock_resp_op which id) []) (Source WriteBackSuperblockRespStep)
-        → ((write_back_superblock_resp g l m which id).answer ≡ answer.Next (write_back_superblock_resp_op which id)) × (machine_of g l (write_back_superblock_resp g l m which id).machine ≡ s')
+        → ((write_back_superblock_resp g l m which id).answer ≡ Ok (write_back_superblock_resp_op which id)) × (machine_of g l (write_back_superblock_resp g l m which id).machine ≡ s')
     superblock_resp_complete a = taken a.meets (clauses_superblock_resp g l m id which form s' a.step)
 
     pub superblock_resp_no_op : MachineAllowed g format limits (machine_of g l m) s' (operation_of (write_back_superblock_resp_op which id) []) (Source NoOpStep)
-        → ((write_back_superblock_resp g l m which id).answer ≡ answer.Next (write_back_superblock_resp_op which id)) × (machine_of g l (write_back_superblock_resp g l m which id).machine ≡ s')
+        → ((write_back_superblock_resp g l m which id).answer ≡ Ok (write_back_superblock_resp_op which id)) × (machine_of g l (write_back_superblock_resp g l m which id).machine ≡ s')
     superblock_resp_no_op a = taken a.meets (no_op_superblock_resp g l m id which s' a.step)

@@ -1,5 +1,5 @@
 -- The entries that a step brings, the first k of what the caller lends, `view brought sizes k`: question 4 of them, and Advance of a whole machine.
-use Rattle.std.specs.Prelude.{ℕ, ◌+◌, ◌≤◌, ◌≡◌, length, take}
+use Rattle.std.specs.Prelude.{ℕ, ◌+◌, ◌≤◌, ◌≡◌, length, take, Ok}
 use Rattle.std.proofs.Math.Path.{sym, subst}
 use Rattle.std.proofs.Common.{◌∙◌, ap, arith, length-take-le, take_all}
 use mathlib.Core.List.{List, [], append-nil}
@@ -11,7 +11,6 @@ use Rattle.layout.specs.declared.Geometry.{Geometry}
 use Rattle.superblock.specs.declared.DiskOp.{DiskOp}
 use Rattle.superblock.specs.declared.DiskOp.TheVariants as op
 use Rattle.range.specs.Memory.{view, total, length_view, lengths_view}
-use Rattle.memory.specs.Answer.{refusal, refusal_counted, counted_done}
 use Rattle.memory.specs.Limits.{store_limits}
 use Rattle.memory.specs.Given.{memory, count_of, ask_given, ask_added, given_asked, asked_given, added_asked, asked_added}
 use Rattle.ready.specs.State.{count}
@@ -26,11 +25,11 @@ use Rattle.source.specs.Departures.{Advance⁺, Source}
 use Rattle.source.specs.Within.{MachineAllowed, MachineWithin}
 use Rattle.machine.specs.declared.Kind.TheVariants as kind
 use Rattle.machine.specs.declared.Machine.{Machine}
-use Rattle.machine.specs.declared.MachineAnswer.TheVariants as answer
 use Rattle.machine.specs.Lent.{Lent}
 use Rattle.machine.specs.Questions.{bodies_of}
 use Rattle.machine.specs.Working.{count_in, given_of, ask_advance_step, advance_machine, appended_bytes, appended_lens}
-use Rattle.machine.specs.Whole.{ask_add, advance, advanced_bytes, advanced_lens, replay}
+use Rattle.machine.specs.Whole.{ask_add, advance, advanced_bytes, advanced_lens}
+use Rattle.machine.specs.Laws.Entries.{given_number, given_count}
 use Rattle.refine.specs.Machine.ReadyView.{ready_of}
 use Rattle.refine.specs.Machine.ReadyForm.{Given, fit_each}
 use Rattle.refine.specs.Machine.ReadyAdvance as A
@@ -58,13 +57,6 @@ module _ (brought sizes : List ℕ) (k : ℕ) where
               fit = g.fit;
             };
       })
-
-  -- what the machine counts of them
-  given_count : ask_added (memory brought sizes k) ≡ 0 → count_in (given_of brought sizes k) ≡ count k (total sizes k)
-  given_count q = sym (ap count_in (counted_done (ask_added (memory brought sizes k)) (count_of (memory brought sizes k)) q))
-
-  given_refusal : refusal (given_of brought sizes k) ≡ ask_added (memory brought sizes k)
-  given_refusal = refusal_counted (ask_added (memory brought sizes k)) (count_of (memory brought sizes k))
 
 -- any entries can be lent: their bytes, their lengths and their number
 pub brought_view : (es : List JournalEntry) → view (flat es) (lengths es) (length es) ≡ es
@@ -144,7 +136,7 @@ module _ (g : Geometry) (l : Lent) (m : Machine) (brought sizes : List ℕ) (k :
   advance_clauses met a =
       let e = work_asked m (and_then_left _ _ a) in
       let rest = and_then_right _ _ a in
-      let q : ask_added (memory brought sizes k) ≡ 0 = sym (given_refusal brought sizes k) ∙ and_then_left _ _ rest in
+      let q : ask_added (memory brought sizes k) ≡ 0 = sym (given_number brought sizes k) ∙ and_then_left _ _ rest in
       let room = sym (room_is e q) ∙ and_then_right _ _ rest in
       let f = work_form g l m e met.form in
       record {
@@ -165,7 +157,7 @@ module _ (g : Geometry) (l : Lent) (m : Machine) (brought sizes : List ℕ) (k :
       let few = subst (MachineCounts limits) w.1.next counts in
       let q = asked_added (memory brought sizes k) (entries_asked brought sizes k given step.few step.fit) h.none_blank_is in
       let c = A.advance_complete (ready_lent l) (syncs_of m) m.ready f.pending brought sizes k given store_limits f.replay s' dop w.1 few.pending_few few.pending_small in (
-        and_then_both _ _ (asks_work m w.0) (and_then_both _ _ (given_refusal brought sizes k ∙ q) (room_is w.0 q ∙ c.0)),
+        and_then_both _ _ (asks_work m w.0) (and_then_both _ _ (given_number brought sizes k ∙ q) (room_is w.0 q ∙ c.0)),
         work_seen g appended next (next_kind w.0) ∙ sym (advance_view w.0 t q c.0) ∙ c.1,
         c.2,
       )
@@ -187,7 +179,7 @@ module _ (g : Geometry) (l : Lent) (m : Machine) (z : SizedMachine m) (brought s
         rlens = l.rlens;
       }
 
-  pub advance_sound : (o : DiskOp) → (advance g l m brought sizes k).answer ≡ answer.Next o
+  pub advance_sound : (o : DiskOp) → (advance g l m brought sizes k).answer ≡ Ok o
       → MachineAllowed g format limits (machine_of g l m) (machine_of g advanced_lent (advance g l m brought sizes k).machine) (operation_of o []) (Source (AdvanceStep (view brought sizes k)))
   unfolding ask_add
   advance_sound o e =
@@ -198,7 +190,7 @@ module _ (g : Geometry) (l : Lent) (m : Machine) (z : SizedMachine m) (brought s
   pub advance_complete : MachineLent g l → MachineForm l m → Given brought sizes k → (s' : Variables) (dop : D.DiskOp)
       → MachineAllowed g format limits (machine_of g l m) s' dop (Source (AdvanceStep (view brought sizes k)))
       → MachineWithin g limits (machine_of g l m) s' dop (Source (AdvanceStep (view brought sizes k)))
-      → ((advance g l m brought sizes k).answer ≡ answer.Next op.NoDiskOp)
+      → ((advance g l m brought sizes k).answer ≡ Ok op.NoDiskOp)
       × (dop ≡ operation_of op.NoDiskOp [])
       × (machine_of g advanced_lent (advance g l m brought sizes k).machine ≡ s')
   unfolding ask_add

@@ -1,6 +1,6 @@
 -- FinishLoadingOtherPhase, whole: the loaded blocks parse in the code's words (question 7) exactly where they do in the source's, and the replay
 -- entries that are seen in lent memory after it are the parsed ones.
-use Rattle.std.specs.Prelude.{ℕ, ◌*◌, true, ◌≡◌, length, take}
+use Rattle.std.specs.Prelude.{ℕ, ◌*◌, true, ◌≡◌, length, take, Ok}
 use Rattle.std.proofs.Math.Path.{refl, ap}
 use Rattle.std.proofs.Common.{sym, ◌∙◌, subst, arith, length-take}
 use mathlib.Core.List.{List, []}
@@ -28,7 +28,6 @@ use Rattle.source.specs.Limits.{limits}
 use Rattle.source.specs.Departures.{Source, FinishLoadingOtherPhase⁺}
 use Rattle.source.specs.Within.{MachineAllowed, MachineWithin}
 use Rattle.machine.specs.declared.Machine.{Machine}
-use Rattle.machine.specs.declared.MachineAnswer.TheVariants as answer
 use Rattle.machine.specs.Lent.{Lent}
 use Rattle.machine.specs.Questions.{ask_machine}
 use Rattle.machine.specs.Loading.{ask_finish_loading_other_phase_step, ask_loaded, loaded_machine, finish_loading_other_phase_machine, loaded_replay_bytes, loaded_replay_lens}
@@ -172,7 +171,7 @@ module _ (g : Geometry) (l : Lent) (m : Machine) where
       k
 
   module _ (z : SizedMachine m) where
-    pub finish_loading_other_phase_sound : (o : DiskOp) → (finish_loading_other_phase g l m).answer ≡ answer.Next o
+    pub finish_loading_other_phase_sound : (o : DiskOp) → (finish_loading_other_phase g l m).answer ≡ Ok o
         → MachineAllowed g format limits (machine_of g l m) (machine_of g (finished_lent g l m) (finish_loading_other_phase g l m).machine) (operation_of o []) (Source FinishLoadingOtherPhaseStep)
     unfolding ask_finish
     finish_loading_other_phase_sound o e =
@@ -183,7 +182,7 @@ module _ (g : Geometry) (l : Lent) (m : Machine) where
     pub finish_loading_other_phase_complete : MachineLent g l → MachineForm l m → (s' : Variables) (dop : D.DiskOp)
         → MachineAllowed g format limits (machine_of g l m) s' dop (Source FinishLoadingOtherPhaseStep)
         → MachineWithin g limits (machine_of g l m) s' dop (Source FinishLoadingOtherPhaseStep)
-        → ((finish_loading_other_phase g l m).answer ≡ answer.Next op.NoDiskOp)
+        → ((finish_loading_other_phase g l m).answer ≡ Ok op.NoDiskOp)
         × (dop ≡ operation_of op.NoDiskOp [])
         × (machine_of g (finished_lent g l m) (finish_loading_other_phase g l m).machine ≡ s')
     unfolding ask_finish

@@ -1,5 +1,5 @@
 -- Freeze and ReceiveFrozenLoc of a whole machine.
-use Rattle.std.specs.Prelude.{◌≡◌, []}
+use Rattle.std.specs.Prelude.{◌≡◌, [], Ok}
 use Rattle.std.proofs.Math.Path.{sym, ap}
 use Rattle.std.proofs.Common.{◌∙◌, subst}
 use Rattle.laws.specs.Choice.{and_then_left, and_then_right, and_then_both}
@@ -18,7 +18,6 @@ use Rattle.source.specs.Departures.{Source}
 use Rattle.source.specs.Within.{MachineAllowed, MachineWithin}
 use Rattle.machine.specs.declared.Kind.TheVariants as kind
 use Rattle.machine.specs.declared.Machine.{Machine}
-use Rattle.machine.specs.declared.MachineAnswer.TheVariants as answer
 use Rattle.machine.specs.Machine.{ask_ready}
 use Rattle.machine.specs.Lent.{Lent}
 use Rattle.machine.specs.Working.{ask_freeze_step, freeze_machine, ask_receive_frozen_loc_step, receive_frozen_loc_machine}
@@ -85,7 +84,7 @@ module _ (g : Geometry) (l : Lent) (m : Machine) where
 
 -- the whole steps
 module _ (g : Geometry) (l : Lent) (m : Machine) (z : SizedMachine m) where
-  pub freeze_sound : (o : DiskOp) → (freeze g l m).answer ≡ answer.Next o
+  pub freeze_sound : (o : DiskOp) → (freeze g l m).answer ≡ Ok o
       → MachineAllowed g format limits (machine_of g l m) (machine_of g l (freeze g l m).machine) (operation_of o []) (Source FreezeStep)
   freeze_sound o e =
       sound_same g l m z (ask_freeze_step m) op.NoDiskOp (freeze_machine m) [] (Source FreezeStep) o e
@@ -93,13 +92,13 @@ module _ (g : Geometry) (l : Lent) (m : Machine) (z : SizedMachine m) where
 
   pub freeze_complete : MachineLent g l → MachineForm l m → (s' : Variables) (dop : D.DiskOp)
       → MachineAllowed g format limits (machine_of g l m) s' dop (Source FreezeStep) → MachineWithin g limits (machine_of g l m) s' dop (Source FreezeStep)
-      → ((freeze g l m).answer ≡ answer.Next op.NoDiskOp) × (dop ≡ operation_of op.NoDiskOp []) × (machine_of g l (freeze g l m).machine ≡ s')
+      → ((freeze g l m).answer ≡ Ok op.NoDiskOp) × (dop ≡ operation_of op.NoDiskOp []) × (machine_of g l (freeze g l m).machine ≡ s')
   freeze_complete t form s' dop a within =
       let c = clauses_freeze g l m form s' dop a.step in
       let k = complete_same g l m z (ask_freeze_step m) op.NoDiskOp (freeze_machine m) s' t form a.meets c.0 c.1 in
       (k.0, c.2, k.1)
 
-  pub receive_sound : (loc : Location) (o : DiskOp) → (receive_frozen_loc g l m loc).answer ≡ answer.Next o
+  pub receive_sound : (loc : Location) (o : DiskOp) → (receive_frozen_loc g l m loc).answer ≡ Ok o
       → MachineAllowed g format limits (machine_of g l m) (machine_of g l (receive_frozen_loc g l m loc).machine) (operation_of o []) (Source (ReceiveFrozenLocStep loc))
   receive_sound loc o e =
       sound_same g l m z (ask_receive_frozen_loc_step g m loc) op.NoDiskOp (receive_frozen_loc_machine m loc) [] (Source (ReceiveFrozenLocStep loc)) o e
@@ -108,7 +107,7 @@ module _ (g : Geometry) (l : Lent) (m : Machine) (z : SizedMachine m) where
   pub receive_complete : MachineLent g l → MachineForm l m → (loc : Location) (s' : Variables) (dop : D.DiskOp)
       → MachineAllowed g format limits (machine_of g l m) s' dop (Source (ReceiveFrozenLocStep loc))
       → MachineWithin g limits (machine_of g l m) s' dop (Source (ReceiveFrozenLocStep loc))
-      → ((receive_frozen_loc g l m loc).answer ≡ answer.Next op.NoDiskOp) × (dop ≡ operation_of op.NoDiskOp []) × (machine_of g l (receive_frozen_loc g l m loc).machine ≡ s')
+      → ((receive_frozen_loc g l m loc).answer ≡ Ok op.NoDiskOp) × (dop ≡ operation_of op.NoDiskOp []) × (machine_of g l (receive_frozen_loc g l m loc).machine ≡ s')
   receive_complete t form loc s' dop a within =
       let c = clauses_receive g l m loc s' dop a.step in
       let k = complete_same g l m z (ask_receive_frozen_loc_step g m loc) op.NoDiskOp (receive_frozen_loc_machine m loc) s' t form a.meets c.0 c.1 in

@@ -1,6 +1,6 @@
 -- The request of a piece of the journal, whole: allowed where it is taken, and taken, with the state and the operation that the relation names,
 -- where it is allowed and within limits. Its answer is in MachineJournalAnswers.
-use Rattle.std.specs.Prelude.{ℕ, ◌≤◌, ◌≡◌, []}
+use Rattle.std.specs.Prelude.{ℕ, ◌≤◌, ◌≡◌, [], Ok}
 use Rattle.std.proofs.Math.Path.{refl, sym}
 use Rattle.laws.specs.Choice.{and_then_left, and_then_right, and_then_both}
 use Rattle.layout.specs.declared.Geometry.{Geometry}
@@ -11,14 +11,13 @@ use Rattle.source.specs.JournalCache.{Variables, PageInJournalReqStep, PageInJou
 use Rattle.source.specs.Limits.{limits}
 use Rattle.source.specs.Departures.{Source}
 use Rattle.source.specs.Within.{MachineAllowed, MachineWithin}
+use Rattle.loading.specs.Which.{is_second}
 use Rattle.machine.specs.declared.Machine.{Machine}
-use Rattle.machine.specs.declared.MachineAnswer.TheVariants as answer
 use Rattle.machine.specs.Lent.{Lent}
 use Rattle.machine.specs.Questions.{ask_machine}
 use Rattle.machine.specs.Loading.{ask_page_in_journal_req_step, page_in_journal_req_op, page_in_journal_req_machine}
 use Rattle.machine.specs.Whole.{page_in_journal_req}
 use Rattle.refine.specs.Machine.LoadingOther as L
-use Rattle.refine.specs.Machine.ReadyView.{slot_of}
 use Rattle.refine.specs.Machine.MachineView.{syncs_of, machine_of, operation_of, SizedMachine, MachineLent, MachineForm}
 use Rattle.refine.specs.Machine.MachineMeets.{KindOk, machine_kind_ok}
 use Rattle.refine.specs.Machine.MachineCalls.{sound_same, complete_same}
@@ -29,18 +28,18 @@ module _ (g : Geometry) (l : Lent) (m : Machine) where
 
   module _ (which : ℕ) where
     pub page_in_journal_req_clauses : (id : ℕ) → ask_machine g l m ≡ 0 → ask_page_in_journal_req_step g m which ≡ 0
-        → PageInJournalReq g (machine_of g l m) (machine_of g l (page_in_journal_req_machine m which id)) (operation_of (page_in_journal_req_op g m which id) []) (slot_of which)
+        → PageInJournalReq g (machine_of g l m) (machine_of g l (page_in_journal_req_machine m which id)) (operation_of (page_in_journal_req_op g m which id) []) (is_second which)
     unfolding ask_page_in_journal_req_step page_in_journal_req_machine
     page_in_journal_req_clauses id a e =
         asked_other_is
         (λ m.
         KindOk g m
-        → PageInJournalReq g (machine_of g l m) (machine_of g l (page_in_journal_req_machine m which id)) (operation_of (page_in_journal_req_op g m which id) []) (slot_of which))
+        → PageInJournalReq g (machine_of g l m) (machine_of g l (page_in_journal_req_machine m which id)) (operation_of (page_in_journal_req_op g m which id) []) (is_second which))
         m (and_then_left _ _ e)
         (λ k. L.page_in_journal_req_sound g l.pieces m.other (syncs_of m) which id k (and_then_right _ _ e))
         (machine_kind_ok g l m a)
 
-    pub clauses_page_in_journal_req : which ≤ 1 → (s' : Variables) (dop : D.DiskOp) → PageInJournalReq g (machine_of g l m) s' dop (slot_of which)
+    pub clauses_page_in_journal_req : which ≤ 1 → (s' : Variables) (dop : D.DiskOp) → PageInJournalReq g (machine_of g l m) s' dop (is_second which)
         → (id : ℕ)
         × (ask_page_in_journal_req_step g m which ≡ 0)
         × (dop ≡ operation_of (page_in_journal_req_op g m which id) [])
@@ -49,7 +48,7 @@ module _ (g : Geometry) (l : Lent) (m : Machine) where
     clauses_page_in_journal_req w s' dop =
         by_kind_is
         (λ m.
-        PageInJournalReq g (machine_of g l m) s' dop (slot_of which)
+        PageInJournalReq g (machine_of g l m) s' dop (is_second which)
         → (id : ℕ)
         × (ask_page_in_journal_req_step g m which ≡ 0)
         × (dop ≡ operation_of (page_in_journal_req_op g m which id) [])
@@ -62,18 +61,18 @@ module _ (g : Geometry) (l : Lent) (m : Machine) where
         (λ h. absurd h)
 
     module _ (z : SizedMachine m) where
-      pub page_in_journal_req_sound : (id : ℕ) (o : DiskOp) → (page_in_journal_req g l m which id).answer ≡ answer.Next o
-          → MachineAllowed g format limits (machine_of g l m) (machine_of g l (page_in_journal_req g l m which id).machine) (operation_of o []) (Source (PageInJournalReqStep (slot_of which)))
+      pub page_in_journal_req_sound : (id : ℕ) (o : DiskOp) → (page_in_journal_req g l m which id).answer ≡ Ok o
+          → MachineAllowed g format limits (machine_of g l m) (machine_of g l (page_in_journal_req g l m which id).machine) (operation_of o []) (Source (PageInJournalReqStep (is_second which)))
       page_in_journal_req_sound id o e =
           sound_same g l m z (ask_page_in_journal_req_step g m which) (page_in_journal_req_op g m which id) (page_in_journal_req_machine m which id) []
-          (Source (PageInJournalReqStep (slot_of which))) o e
+          (Source (PageInJournalReqStep (is_second which))) o e
           (λ a r h. page_in_journal_req_clauses id a r)
 
       pub page_in_journal_req_complete : MachineLent g l → MachineForm l m → which ≤ 1 → (s' : Variables) (dop : D.DiskOp)
-          → MachineAllowed g format limits (machine_of g l m) s' dop (Source (PageInJournalReqStep (slot_of which)))
-          → MachineWithin g limits (machine_of g l m) s' dop (Source (PageInJournalReqStep (slot_of which)))
+          → MachineAllowed g format limits (machine_of g l m) s' dop (Source (PageInJournalReqStep (is_second which)))
+          → MachineWithin g limits (machine_of g l m) s' dop (Source (PageInJournalReqStep (is_second which)))
           → (id : ℕ)
-          × ((page_in_journal_req g l m which id).answer ≡ answer.Next (page_in_journal_req_op g m which id))
+          × ((page_in_journal_req g l m which id).answer ≡ Ok (page_in_journal_req_op g m which id))
           × (dop ≡ operation_of (page_in_journal_req_op g m which id) [])
           × (machine_of g l (page_in_journal_req g l m which id).machine ≡ s')
       page_in_journal_req_complete t f w s' dop h i =

@@ -1,6 +1,6 @@
 -- The answer of a journal read, whole or damaged, in every kind of machine: awaited, or a NoOp. The blocks of a whole answer are those of the lent
 -- bytes (`new`), as many as there are; the pieces after it lie in lent memory. A journal answer carries no `which`.
-use Rattle.std.specs.Prelude.{ℕ, ◌/◌, Bool, ◌≡◌, ◌⊎◌, length}
+use Rattle.std.specs.Prelude.{ℕ, ◌/◌, Bool, ◌≡◌, ◌⊎◌, length, Ok}
 use Rattle.std.proofs.Math.Path.{refl, sym, ap}
 use Rattle.std.proofs.Common.{◌∙◌, inl, ⊎_elim}
 use mathlib.Core.List.{List, []}
@@ -27,7 +27,6 @@ use Rattle.source.specs.Within.{AwaitedPiece, MachineAllowed, MachineWithin}
 use Rattle.source.proofs.Laws.Awaited.{awaited_read_is}
 use Rattle.loading.specs.Other.{place}
 use Rattle.machine.specs.declared.Machine.{Machine}
-use Rattle.machine.specs.declared.MachineAnswer.TheVariants as answer
 use Rattle.machine.specs.Lent.{Lent}
 use Rattle.machine.specs.Questions.{ask_machine}
 use Rattle.machine.specs.Laws.Answers.{next_asked}
@@ -183,7 +182,7 @@ module _ (g : Geometry) (l : Lent) (m : Machine) where
     same_lent id r new e = ap (with_pieces l) (unless_done (ask_paged g l m id r new) l.pieces (paged_pieces (paged_in g m id r) new l.pieces) e)
 
     -- what each takes off: questions 1 and 2
-    allowed : (id : ℕ) (r : JournalRead) (new : List ℕ) (jr : JournalRange) (step : Step⁺) (o : DiskOp) → (page_in_journal_resp g l m id r new).answer ≡ answer.Next o
+    allowed : (id : ℕ) (r : JournalRead) (new : List ℕ) (jr : JournalRange) (step : Step⁺) (o : DiskOp) → (page_in_journal_resp g l m id r new).answer ≡ Ok o
         → NextStep⁺ g format (machine_of g l m) (seen_after g l m id r new) (operation_of (op.RespReadJournal id r) jr) step
         → MachineAllowed g format limits (machine_of g l m) (machine_of g (answered_lent g l m id r new) (page_in_journal_resp g l m id r new).machine) (operation_of o jr) step
     unfolding ask_paged
@@ -193,7 +192,7 @@ module _ (g : Geometry) (l : Lent) (m : Machine) where
 
     taken : (id : ℕ) (r : JournalRead) (new : List ℕ) (s' : Variables) → MachineLent g l → MachineForm l m → MachineMeets g limits (machine_of g l m)
         → ask_piece (paged_in g m id r) new ≡ 0 → seen_after g l m id r new ≡ s'
-        → ((page_in_journal_resp g l m id r new).answer ≡ answer.Next (op.RespReadJournal id r))
+        → ((page_in_journal_resp g l m id r new).answer ≡ Ok (op.RespReadJournal id r))
         × (machine_of g (answered_lent g l m id r new) (page_in_journal_resp g l m id r new).machine ≡ s')
     unfolding ask_paged
     taken id r new s' t f k e p =
@@ -201,14 +200,14 @@ module _ (g : Geometry) (l : Lent) (m : Machine) where
         s' t f k e p
 
     module _ (id : ℕ) (new : List ℕ) (o : DiskOp) where
-      asked_paged : (r : JournalRead) → (page_in_journal_resp g l m id r new).answer ≡ answer.Next o → (ask_machine g l m ≡ 0) × (ask_piece (paged_in g m id r) new ≡ 0)
+      asked_paged : (r : JournalRead) → (page_in_journal_resp g l m id r new).answer ≡ Ok o → (ask_machine g l m ≡ 0) × (ask_piece (paged_in g m id r) new ≡ 0)
       unfolding ask_paged
       asked_paged r e =
           let q = (next_asked (ask_paged g l m id r new) (page_in_journal_resp_op id r) (page_in_journal_resp_machine m id r) m o e).0 in
           (and_then_left _ _ q, and_then_right _ _ q)
 
       -- a whole answer
-      pub page_in_journal_resp_sound : (which : Bool) → (page_in_journal_resp g l m id read.Whole new).answer ≡ answer.Next o
+      pub page_in_journal_resp_sound : (which : Bool) → (page_in_journal_resp g l m id read.Whole new).answer ≡ Ok o
           → MachineAllowed g format limits (machine_of g l m) (machine_of g (answered_lent g l m id read.Whole new) (page_in_journal_resp g l m id read.Whole new).machine)
           (operation_of o (blocks_in (length new / 4096) new)) (Source (PageInJournalRespStep which))
           ⊎ MachineAllowed g format limits (machine_of g l m) (machine_of g (answered_lent g l m id read.Whole new) (page_in_journal_resp g l m id read.Whole new).machine)
@@ -221,7 +220,7 @@ module _ (g : Geometry) (l : Lent) (m : Machine) where
           (whole_clauses id new q.0 q.1)
 
       -- a damaged one
-      pub damaged_journal_sound : (page_in_journal_resp g l m id read.Damaged new).answer ≡ answer.Next o
+      pub damaged_journal_sound : (page_in_journal_resp g l m id read.Damaged new).answer ≡ Ok o
           → MachineAllowed g format limits (machine_of g l m) (machine_of g (answered_lent g l m id read.Damaged new) (page_in_journal_resp g l m id read.Damaged new).machine) (operation_of o []) DamagedJournalStep
           ⊎ MachineAllowed g format limits (machine_of g l m) (machine_of g (answered_lent g l m id read.Damaged new) (page_in_journal_resp g l m id read.Damaged new).machine) (operation_of o []) (Source NoOpStep)
       damaged_journal_sound e =
@@ -236,7 +235,7 @@ module _ (g : Geometry) (l : Lent) (m : Machine) where
           → MachineWithin g limits (machine_of g l m) s' dop (Source (PageInJournalRespStep which))
           → (id : ℕ)
           × (jr : JournalRange)
-          × ((page_in_journal_resp g l m id read.Whole (flat jr)).answer ≡ answer.Next (op.RespReadJournal id read.Whole))
+          × ((page_in_journal_resp g l m id read.Whole (flat jr)).answer ≡ Ok (op.RespReadJournal id read.Whole))
           × (dop ≡ operation_of (op.RespReadJournal id read.Whole) (blocks_in (length (flat jr) / 4096) (flat jr)))
           × (machine_of g (answered_lent g l m id read.Whole (flat jr)) (page_in_journal_resp g l m id read.Whole (flat jr)).machine ≡ s')
       page_in_journal_resp_complete which dop h i =
@@ -247,7 +246,7 @@ module _ (g : Geometry) (l : Lent) (m : Machine) where
       pub damaged_journal_complete : (dop : D.DiskOp) → MachineAllowed g format limits (machine_of g l m) s' dop DamagedJournalStep
           → MachineWithin g limits (machine_of g l m) s' dop DamagedJournalStep → (new : List ℕ)
           → (id : ℕ)
-          × ((page_in_journal_resp g l m id read.Damaged new).answer ≡ answer.Next (op.RespReadJournal id read.Damaged))
+          × ((page_in_journal_resp g l m id read.Damaged new).answer ≡ Ok (op.RespReadJournal id read.Damaged))
           × (dop ≡ operation_of (op.RespReadJournal id read.Damaged) [])
           × (machine_of g (answered_lent g l m id read.Damaged new) (page_in_journal_resp g l m id read.Damaged new).machine ≡ s')
       damaged_journal_complete dop h i new =
@@ -259,7 +258,7 @@ module _ (g : Geometry) (l : Lent) (m : Machine) where
       pub journal_unawaited_complete : (id : ℕ) (r : JournalRead) (jr : JournalRange) (new : List ℕ)
           → MachineAllowed g format limits (machine_of g l m) s' (operation_of (op.RespReadJournal id r) jr) (Source NoOpStep)
           → MachineWithin g limits (machine_of g l m) s' (operation_of (op.RespReadJournal id r) jr) (Source NoOpStep)
-          → ((page_in_journal_resp g l m id r new).answer ≡ answer.Next (op.RespReadJournal id r))
+          → ((page_in_journal_resp g l m id r new).answer ≡ Ok (op.RespReadJournal id r))
           × (machine_of g (answered_lent g l m id r new) (page_in_journal_resp g l m id r new).machine ≡ s')
       journal_unawaited_complete id r jr new h i =
           let c = clauses_unawaited id new r (whole_in r jr) s' h.step in

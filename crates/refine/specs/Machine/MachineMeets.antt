@@ -1,6 +1,6 @@
 -- Questions 1 and 2 of a whole machine, in every kind: the test says yes exactly where lent memory is right, the record has its form, and the view
 -- meets question 2 in the document's words (`MachineMeets`).
-use Rattle.std.specs.Prelude.{ℕ, ◌-◌, ◌≤◌, Bool, true, ◌≡◌, length}
+use Rattle.std.specs.Prelude.{ℕ, ◌≤◌, Bool, true, ◌≡◌, length}
 use Rattle.std.proofs.Common.{sym, ◌∙◌, arith}
 use Rattle.std.proofs.Math.Path.{ap}
 use Rattle.laws.specs.Choice.{and_then_left, and_then_right, and_then_both, ask_yes, ask_holds, also_left, also_right, also_both}

@@ -1,5 +1,6 @@
 -- The range that a journal write sends stands at the front of the lent buffer: its blocks there are the format's blocks of the entries.
 use Rattle.std.specs.Prelude.{ℕ, ◌-◌, ◌*◌, ◌≤◌, ◌<◌, ◌≡◌, refl, List, length}
+use Rattle.std.specs.declared.option.Option as code
 use Rattle.std.proofs.Common.{sym, ◌∙◌, ap, subst, arith, drop_of_length-le, take_all}
 use Rattle.laws.specs.Around.{splice_around}
 use Rattle.laws.specs.Splice.{splice, splice_none}
@@ -14,10 +15,8 @@ use Rattle.codec.specs.Codec.{JournalEntry}
 use Rattle.codec.specs.Format.{format, flat_encode_blocks, lengths_encode_blocks}
 use Rattle.layout.specs.declared.Geometry.{Geometry}
 use Rattle.layout.specs.Geometry.{num_journal_blocks}
-use Rattle.superblock.specs.declared.MaybeId.{MaybeId}
 use Rattle.lengths.specs.Entries.{entries_first}
 use Rattle.ready.specs.declared.Bodies.{Bodies}
-use Rattle.ready.specs.declared.Ready.{Ready}
 use Rattle.ready.specs.State.{sent}
 use Rattle.ready.specs.JournalSteps.{sent_blocks}
 use Rattle.ready.specs.Laws.Asked.{MayWrite}
@@ -90,7 +89,7 @@ module _ (g : Geometry) (l : Lent) (m : Machine) where
         ap (λ (t : ℕ). blocks_for (used length_width (sent m.ready.entries held).entries t)) sent_total
         ∙ sym (fits_blocks l.bytes l.lens (sent m.ready.entries held).entries (sent_fits any))
 
-    pub range_sent : (id1 : ℕ) (id2 : MaybeId) (out : List ℕ) → MayWrite g m.ready id1 id2 held → length out ≡ num_journal_blocks g * block_size
+    pub range_sent : (id1 : ℕ) (id2 : code.Option ℕ) (out : List ℕ) → MayWrite g m.ready id1 id2 held → length out ≡ num_journal_blocks g * block_size
         → blocks_in (sent_blocks m.ready held) (sent_range m held l.bytes l.lens out 0) ≡ R.sent_range (work_of l m)
     range_sent id1 id2 out may size =
         let f = work_form g l m e form in

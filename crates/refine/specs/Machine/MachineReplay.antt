@@ -1,5 +1,5 @@
 -- Replay of a whole machine. The entries that the step brings are compared with the next ones of replay memory, which stays.
-use Rattle.std.specs.Prelude.{ℕ, ◌≡◌, refl, List, []}
+use Rattle.std.specs.Prelude.{ℕ, ◌≡◌, refl, List, [], Ok}
 use Rattle.std.proofs.Math.Bool.{true}
 use Rattle.std.proofs.Common.{◌∙◌, subst, arith, leb-true}
 use Rattle.std.proofs.Math.Path.{ap}
@@ -28,7 +28,6 @@ use Rattle.source.specs.Within.{MachineAllowed, MachineWithin}
 use Rattle.source.proofs.Laws.Cases.{by_ready}
 use Rattle.machine.specs.declared.Kind.TheVariants as kind
 use Rattle.machine.specs.declared.Machine.{Machine}
-use Rattle.machine.specs.declared.MachineAnswer.TheVariants as answer
 use Rattle.machine.specs.Lent.{Lent}
 use Rattle.machine.specs.Working.{ask_replay_given, ask_replay_step, replay_machine}
 use Rattle.machine.specs.Whole.{replay}
@@ -112,7 +111,7 @@ module _ (g : Geometry) (l : Lent) (m : Machine) (brought sizes : List ℕ) (k :
 
 -- the whole step
 module _ (g : Geometry) (l : Lent) (m : Machine) (z : SizedMachine m) (brought sizes : List ℕ) (k : ℕ) where
-  pub replay_sound : (o : DiskOp) → (replay g l m brought sizes k).answer ≡ answer.Next o
+  pub replay_sound : (o : DiskOp) → (replay g l m brought sizes k).answer ≡ Ok o
       → MachineAllowed g format limits (machine_of g l m) (machine_of g l (replay g l m brought sizes k).machine) (operation_of o []) (Source (ReplayStep (view brought sizes k)))
   replay_sound o e =
       sound_same g l m z (ask_replay_step m l.rbytes l.rlens brought sizes k) op.NoDiskOp (next g l m brought sizes k) [] (Source (ReplayStep (view brought sizes k))) o e
@@ -121,7 +120,7 @@ module _ (g : Geometry) (l : Lent) (m : Machine) (z : SizedMachine m) (brought s
   pub replay_complete : MachineLent g l → MachineForm l m → Given brought sizes k → (s' : Variables) (dop : D.DiskOp)
       → MachineAllowed g format limits (machine_of g l m) s' dop (Source (ReplayStep (view brought sizes k)))
       → MachineWithin g limits (machine_of g l m) s' dop (Source (ReplayStep (view brought sizes k)))
-      → ((replay g l m brought sizes k).answer ≡ answer.Next op.NoDiskOp)
+      → ((replay g l m brought sizes k).answer ≡ Ok op.NoDiskOp)
       × (dop ≡ operation_of op.NoDiskOp [])
       × (machine_of g l (replay g l m brought sizes k).machine ≡ s')
   replay_complete t form held s' dop a within =

@@ -1,6 +1,6 @@
 -- The steps of a machine that loads its superblocks, whole: a request, ask again, and the end of the phase. Each is allowed where it is taken, and
 -- taken, with the state and the operation that the relation names, where it is allowed and within limits.
-use Rattle.std.specs.Prelude.{ℕ, ◌≤◌, ◌≡◌, []}
+use Rattle.std.specs.Prelude.{ℕ, ◌≤◌, ◌≡◌, [], Ok}
 use Rattle.std.proofs.Math.Path.{refl, sym}
 use Rattle.laws.specs.Choice.{and_then_left, and_then_right, and_then_both}
 use Rattle.layout.specs.declared.Geometry.{Geometry}
@@ -12,13 +12,12 @@ use Rattle.source.specs.JournalCache.{Variables, PageInSuperblockReqStep, Finish
 use Rattle.source.specs.Limits.{limits}
 use Rattle.source.specs.Departures.{Source, AskAgainStep, PageInSuperblockReq⁺, AskAgain}
 use Rattle.source.specs.Within.{MachineAllowed, MachineWithin}
+use Rattle.loading.specs.Which.{is_second}
 use Rattle.machine.specs.declared.Machine.{Machine}
-use Rattle.machine.specs.declared.MachineAnswer.TheVariants as answer
 use Rattle.machine.specs.Lent.{Lent}
 use Rattle.machine.specs.Loading.{ask_page_in_superblock_req_step, page_in_superblock_req_op, page_in_superblock_req_machine, ask_finish_loading_superblock_phase_step, finish_loading_superblock_phase_machine, ask_ask_again_step, ask_again_machine}
 use Rattle.machine.specs.Whole.{page_in_superblock_req, finish_loading_superblock_phase, ask_again}
 use Rattle.refine.specs.Machine.LoadingSuperblock as L
-use Rattle.refine.specs.Machine.ReadyView.{slot_of}
 use Rattle.refine.specs.Machine.MachineView.{syncs_of, machine_of, operation_of, SizedMachine, MachineLent, MachineForm}
 use Rattle.refine.specs.Machine.MachineCalls.{sound_same, complete_same}
 use Rattle.refine.specs.Machine.MachineKinds.{by_kind_is, asked_superblocks}
@@ -28,15 +27,15 @@ module _ (g : Geometry) (l : Lent) (m : Machine) where
 
   module _ (which : ℕ) where
     pub page_in_superblock_req_clauses : (id : ℕ) → ask_page_in_superblock_req_step m which id ≡ 0
-        → PageInSuperblockReq⁺ (machine_of g l m) (machine_of g l (page_in_superblock_req_machine m which id)) (operation_of (page_in_superblock_req_op which id) []) (slot_of which)
+        → PageInSuperblockReq⁺ (machine_of g l m) (machine_of g l (page_in_superblock_req_machine m which id)) (operation_of (page_in_superblock_req_op which id) []) (is_second which)
     unfolding ask_page_in_superblock_req_step page_in_superblock_req_machine
     page_in_superblock_req_clauses id e =
         asked_superblocks
-        (λ m. PageInSuperblockReq⁺ (machine_of g l m) (machine_of g l (page_in_superblock_req_machine m which id)) (operation_of (page_in_superblock_req_op which id) []) (slot_of which))
+        (λ m. PageInSuperblockReq⁺ (machine_of g l m) (machine_of g l (page_in_superblock_req_machine m which id)) (operation_of (page_in_superblock_req_op which id) []) (is_second which))
         m (and_then_left _ _ e)
         (L.page_in_superblock_req_sound m.superblocks (syncs_of m) which id (and_then_right _ _ e))
 
-    pub clauses_page_in_superblock_req : which ≤ 1 → (s' : Variables) (dop : D.DiskOp) → PageInSuperblockReq⁺ (machine_of g l m) s' dop (slot_of which)
+    pub clauses_page_in_superblock_req : which ≤ 1 → (s' : Variables) (dop : D.DiskOp) → PageInSuperblockReq⁺ (machine_of g l m) s' dop (is_second which)
         → (id : ℕ)
         × (ask_page_in_superblock_req_step m which id ≡ 0)
         × (dop ≡ operation_of (page_in_superblock_req_op which id) [])
@@ -45,7 +44,7 @@ module _ (g : Geometry) (l : Lent) (m : Machine) where
     clauses_page_in_superblock_req w s' dop =
         by_kind_is
         (λ m.
-        PageInSuperblockReq⁺ (machine_of g l m) s' dop (slot_of which)
+        PageInSuperblockReq⁺ (machine_of g l m) s' dop (is_second which)
         → (id : ℕ)
         × (ask_page_in_superblock_req_step m which id ≡ 0)
         × (dop ≡ operation_of (page_in_superblock_req_op which id) [])
@@ -58,18 +57,18 @@ module _ (g : Geometry) (l : Lent) (m : Machine) where
         (λ h. absurd h.source)
 
     module _ (z : SizedMachine m) where
-      pub page_in_superblock_req_sound : (id : ℕ) (o : DiskOp) → (page_in_superblock_req g l m which id).answer ≡ answer.Next o
-          → MachineAllowed g format limits (machine_of g l m) (machine_of g l (page_in_superblock_req g l m which id).machine) (operation_of o []) (Source (PageInSuperblockReqStep (slot_of which)))
+      pub page_in_superblock_req_sound : (id : ℕ) (o : DiskOp) → (page_in_superblock_req g l m which id).answer ≡ Ok o
+          → MachineAllowed g format limits (machine_of g l m) (machine_of g l (page_in_superblock_req g l m which id).machine) (operation_of o []) (Source (PageInSuperblockReqStep (is_second which)))
       page_in_superblock_req_sound id o e =
           sound_same g l m z (ask_page_in_superblock_req_step m which id) (page_in_superblock_req_op which id) (page_in_superblock_req_machine m which id) []
-          (Source (PageInSuperblockReqStep (slot_of which))) o e
+          (Source (PageInSuperblockReqStep (is_second which))) o e
           (λ a r h. page_in_superblock_req_clauses id r)
 
       pub page_in_superblock_req_complete : MachineLent g l → MachineForm l m → which ≤ 1 → (s' : Variables) (dop : D.DiskOp)
-          → MachineAllowed g format limits (machine_of g l m) s' dop (Source (PageInSuperblockReqStep (slot_of which)))
-          → MachineWithin g limits (machine_of g l m) s' dop (Source (PageInSuperblockReqStep (slot_of which)))
+          → MachineAllowed g format limits (machine_of g l m) s' dop (Source (PageInSuperblockReqStep (is_second which)))
+          → MachineWithin g limits (machine_of g l m) s' dop (Source (PageInSuperblockReqStep (is_second which)))
           → (id : ℕ)
-          × ((page_in_superblock_req g l m which id).answer ≡ answer.Next (op.ReqReadSuperblock id which))
+          × ((page_in_superblock_req g l m which id).answer ≡ Ok (op.ReqReadSuperblock id which))
           × (dop ≡ operation_of (op.ReqReadSuperblock id which) [])
           × (machine_of g l (page_in_superblock_req g l m which id).machine ≡ s')
       page_in_superblock_req_complete t f w s' dop h i =
@@ -83,19 +82,19 @@ module _ (g : Geometry) (l : Lent) (m : Machine) where
 
   module _ (which : ℕ) where
     pub ask_again_clauses : ask_ask_again_step m which ≡ 0
-        → AskAgain (machine_of g l m) (machine_of g l (ask_again_machine m which)) D.NoDiskOp (slot_of which)
+        → AskAgain (machine_of g l m) (machine_of g l (ask_again_machine m which)) D.NoDiskOp (is_second which)
     unfolding ask_ask_again_step ask_again_machine
     ask_again_clauses e =
-        asked_superblocks (λ m. AskAgain (machine_of g l m) (machine_of g l (ask_again_machine m which)) D.NoDiskOp (slot_of which)) m (and_then_left _ _ e)
+        asked_superblocks (λ m. AskAgain (machine_of g l m) (machine_of g l (ask_again_machine m which)) D.NoDiskOp (is_second which)) m (and_then_left _ _ e)
         (L.ask_again_sound m.superblocks (syncs_of m) which (and_then_right _ _ e))
 
-    pub clauses_ask_again : which ≤ 1 → (s' : Variables) (dop : D.DiskOp) → AskAgain (machine_of g l m) s' dop (slot_of which)
+    pub clauses_ask_again : which ≤ 1 → (s' : Variables) (dop : D.DiskOp) → AskAgain (machine_of g l m) s' dop (is_second which)
         → (ask_ask_again_step m which ≡ 0) × (dop ≡ D.NoDiskOp) × (machine_of g l (ask_again_machine m which) ≡ s')
     unfolding ask_ask_again_step ask_again_machine
     clauses_ask_again w s' dop =
         by_kind_is
         (λ m.
-        AskAgain (machine_of g l m) s' dop (slot_of which)
+        AskAgain (machine_of g l m) s' dop (is_second which)
         → (ask_ask_again_step m which ≡ 0) × (dop ≡ D.NoDiskOp) × (machine_of g l (ask_again_machine m which) ≡ s'))
         m
         (λ h.
@@ -105,16 +104,16 @@ module _ (g : Geometry) (l : Lent) (m : Machine) where
         (λ h. absurd h)
 
     module _ (z : SizedMachine m) where
-      pub ask_again_sound : (o : DiskOp) → (ask_again g l m which).answer ≡ answer.Next o
-          → MachineAllowed g format limits (machine_of g l m) (machine_of g l (ask_again g l m which).machine) (operation_of o []) (AskAgainStep (slot_of which))
+      pub ask_again_sound : (o : DiskOp) → (ask_again g l m which).answer ≡ Ok o
+          → MachineAllowed g format limits (machine_of g l m) (machine_of g l (ask_again g l m which).machine) (operation_of o []) (AskAgainStep (is_second which))
       ask_again_sound o e =
-          sound_same g l m z (ask_ask_again_step m which) op.NoDiskOp (ask_again_machine m which) [] (AskAgainStep (slot_of which)) o e
+          sound_same g l m z (ask_ask_again_step m which) op.NoDiskOp (ask_again_machine m which) [] (AskAgainStep (is_second which)) o e
           (λ a r h. ask_again_clauses r)
 
       pub ask_again_complete : MachineLent g l → MachineForm l m → which ≤ 1 → (s' : Variables) (dop : D.DiskOp)
-          → MachineAllowed g format limits (machine_of g l m) s' dop (AskAgainStep (slot_of which))
-          → MachineWithin g limits (machine_of g l m) s' dop (AskAgainStep (slot_of which))
-          → ((ask_again g l m which).answer ≡ answer.Next op.NoDiskOp) × (dop ≡ operation_of op.NoDiskOp []) × (machine_of g l (ask_again g l m which).machine ≡ s')
+          → MachineAllowed g format limits (machine_of g l m) s' dop (AskAgainStep (is_second which))
+          → MachineWithin g limits (machine_of g l m) s' dop (AskAgainStep (is_second which))
+          → ((ask_again g l m which).answer ≡ Ok op.NoDiskOp) × (dop ≡ operation_of op.NoDiskOp []) × (machine_of g l (ask_again g l m which).machine ≡ s')
       ask_again_complete t f w s' dop h i =
           let c = clauses_ask_again w s' dop h.step in
           let a = complete_same g l m z (ask_ask_again_step m which) op.NoDiskOp (ask_again_machine m which) s' t f h.meets c.0 c.2 in
@@ -145,7 +144,7 @@ module _ (g : Geometry) (l : Lent) (m : Machine) where
       (λ h. absurd h)
 
   module _ (z : SizedMachine m) where
-    pub finish_loading_superblock_phase_sound : (o : DiskOp) → (finish_loading_superblock_phase g l m).answer ≡ answer.Next o
+    pub finish_loading_superblock_phase_sound : (o : DiskOp) → (finish_loading_superblock_phase g l m).answer ≡ Ok o
         → MachineAllowed g format limits (machine_of g l m) (machine_of g l (finish_loading_superblock_phase g l m).machine) (operation_of o []) (Source FinishLoadingSuperblockPhaseStep)
     finish_loading_superblock_phase_sound o e =
         sound_same g l m z (ask_finish_loading_superblock_phase_step m) op.NoDiskOp (finish_loading_superblock_phase_machine m) [] (Source FinishLoadingSuperblockPhaseStep) o e
@@ -154,7 +153,7 @@ module _ (g : Geometry) (l : Lent) (m : Machine) where
     pub finish_loading_superblock_phase_complete : MachineLent g l → MachineForm l m → (s' : Variables) (dop : D.DiskOp)
         → MachineAllowed g format limits (machine_of g l m) s' dop (Source FinishLoadingSuperblockPhaseStep)
         → MachineWithin g limits (machine_of g l m) s' dop (Source FinishLoadingSuperblockPhaseStep)
-        → ((finish_loading_superblock_phase g l m).answer ≡ answer.Next op.NoDiskOp)
+        → ((finish_loading_superblock_phase g l m).answer ≡ Ok op.NoDiskOp)
         × (dop ≡ operation_of op.NoDiskOp [])
         × (machine_of g l (finish_loading_superblock_phase g l m).machine ≡ s')
     finish_loading_superblock_phase_complete t f s' dop h i =

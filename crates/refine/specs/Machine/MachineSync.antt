@@ -1,5 +1,5 @@
 -- PushSyncReq, PopSyncReq and NoOp of a whole machine, in every kind. A step here alters the table of sync requests alone.
-use Rattle.std.specs.Prelude.{ℕ, ◌≡◌, refl, [], leb, take}
+use Rattle.std.specs.Prelude.{ℕ, ◌≡◌, refl, [], leb, take, Ok}
 use Rattle.std.proofs.Math.Bool.{true}
 use Rattle.std.proofs.Math.Path.{sym, ap, subst}
 use Rattle.std.proofs.Common.{◌∙◌, arith}
@@ -24,7 +24,6 @@ use Rattle.source.specs.Limits.{Limits, limits, MachineCounts}
 use Rattle.source.specs.Departures.{Source}
 use Rattle.source.specs.Within.{MachineAllowed, MachineWithin}
 use Rattle.machine.specs.declared.Machine.{Machine}
-use Rattle.machine.specs.declared.MachineAnswer.TheVariants as answer
 use Rattle.machine.specs.Machine.{most_sync_reqs, with_sync}
 use Rattle.machine.specs.Lent.{Lent}
 use Rattle.machine.specs.Questions.{ask_machine}
@@ -127,7 +126,7 @@ module _ (g : Geometry) (l : Lent) (m : Machine) where
 
 -- the whole steps
 module _ (g : Geometry) (l : Lent) (m : Machine) (z : SizedMachine m) where
-  pub push_sound : (id : ℕ) (o : DiskOp) → (push_sync_req g l m id).answer ≡ answer.Next o
+  pub push_sound : (id : ℕ) (o : DiskOp) → (push_sync_req g l m id).answer ≡ Ok o
       → MachineAllowed g format limits (machine_of g l m) (machine_of g l (push_sync_req g l m id).machine) (operation_of o []) (Source (PushSyncReqStep id))
   push_sound id o e =
       sound_same g l m z (ask_push_sync_req m.sync id) op.NoDiskOp (push_sync_req_machine m id) [] (Source (PushSyncReqStep id)) o e
@@ -135,13 +134,13 @@ module _ (g : Geometry) (l : Lent) (m : Machine) (z : SizedMachine m) where
 
   pub push_complete : MachineLent g l → MachineForm l m → (id : ℕ) (s' : Variables) (dop : D.DiskOp)
       → MachineAllowed g format limits (machine_of g l m) s' dop (Source (PushSyncReqStep id)) → MachineWithin g limits (machine_of g l m) s' dop (Source (PushSyncReqStep id))
-      → ((push_sync_req g l m id).answer ≡ answer.Next op.NoDiskOp) × (dop ≡ operation_of op.NoDiskOp []) × (machine_of g l (push_sync_req g l m id).machine ≡ s')
+      → ((push_sync_req g l m id).answer ≡ Ok op.NoDiskOp) × (dop ≡ operation_of op.NoDiskOp []) × (machine_of g l (push_sync_req g l m id).machine ≡ s')
   push_complete t form id s' dop a within =
       let c = clauses_push g l m z.syncs form.sync id s' dop a.step within.counts in
       let k = complete_same g l m z (ask_push_sync_req m.sync id) op.NoDiskOp (push_sync_req_machine m id) s' t form a.meets c.0 c.1 in
       (k.0, c.2, k.1)
 
-  pub pop_sound : (id : ℕ) (o : DiskOp) → (pop_sync_req g l m id).answer ≡ answer.Next o
+  pub pop_sound : (id : ℕ) (o : DiskOp) → (pop_sync_req g l m id).answer ≡ Ok o
       → MachineAllowed g format limits (machine_of g l m) (machine_of g l (pop_sync_req g l m id).machine) (operation_of o []) (Source (PopSyncReqStep id))
   pop_sound id o e =
       sound_same g l m z (ask_pop_sync_req m.sync id) op.NoDiskOp (pop_sync_req_machine m id) [] (Source (PopSyncReqStep id)) o e
@@ -149,14 +148,14 @@ module _ (g : Geometry) (l : Lent) (m : Machine) (z : SizedMachine m) where
 
   pub pop_complete : MachineLent g l → MachineForm l m → (id : ℕ) (s' : Variables) (dop : D.DiskOp)
       → MachineAllowed g format limits (machine_of g l m) s' dop (Source (PopSyncReqStep id)) → MachineWithin g limits (machine_of g l m) s' dop (Source (PopSyncReqStep id))
-      → ((pop_sync_req g l m id).answer ≡ answer.Next op.NoDiskOp) × (dop ≡ operation_of op.NoDiskOp []) × (machine_of g l (pop_sync_req g l m id).machine ≡ s')
+      → ((pop_sync_req g l m id).answer ≡ Ok op.NoDiskOp) × (dop ≡ operation_of op.NoDiskOp []) × (machine_of g l (pop_sync_req g l m id).machine ≡ s')
   pop_complete t form id s' dop a within =
       let c = clauses_pop g l m z.syncs form.sync id s' dop a.step in
       let k = complete_same g l m z (ask_pop_sync_req m.sync id) op.NoDiskOp (pop_sync_req_machine m id) s' t form a.meets c.0 c.1 in
       (k.0, c.2, k.1)
 
   -- NoOp without a disk operation; an answer that nobody awaits is with the answers
-  pub no_op_sound : (o : DiskOp) → (no_op g l m).answer ≡ answer.Next o
+  pub no_op_sound : (o : DiskOp) → (no_op g l m).answer ≡ Ok o
       → MachineAllowed g format limits (machine_of g l m) (machine_of g l (no_op g l m).machine) (operation_of o []) (Source NoOpStep)
   no_op_sound o e =
       taken_by g l m (ask_machine g l m) op.NoDiskOp m l l (λ k. refl) [] (Source NoOpStep) o e
@@ -164,7 +163,7 @@ module _ (g : Geometry) (l : Lent) (m : Machine) (z : SizedMachine m) where
 
   pub no_op_complete : MachineLent g l → MachineForm l m → (s' : Variables)
       → MachineAllowed g format limits (machine_of g l m) s' (operation_of op.NoDiskOp []) (Source NoOpStep)
-      → ((no_op g l m).answer ≡ answer.Next op.NoDiskOp) × (machine_of g l (no_op g l m).machine ≡ s')
+      → ((no_op g l m).answer ≡ Ok op.NoDiskOp) × (machine_of g l (no_op g l m).machine ≡ s')
   no_op_complete t form s' a =
       answered_by_is g l m (ask_machine g l m) op.NoDiskOp m l l (λ k. refl) s'
       (met_machine g l m z (record { lent = t; form = form; meets = a.meets }))

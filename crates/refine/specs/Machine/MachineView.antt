@@ -1,8 +1,9 @@
 -- The whole machine as 000's `Variables`: the record of its kind, with what lies in lent memory beside it, and the sync requests, which all
 -- kinds have. What record and lent memory add to the view stands in records of its own.
-use Rattle.std.specs.Prelude.{ℕ, ◌*◌, ◌≤◌, true, cond, ◌≡◌, List, eqb, length, take}
+use Rattle.std.specs.Prelude.{ℕ, ◌*◌, ◌≤◌, true, cond, ◌≡◌, eqb, length, take}
 use Rattle.std.proofs.Math.Option.{Option, none, some}
 use Rattle.laws.specs.Sets.{Map, Distinct}
+use Rattle.laws.specs.Optional.{option_of}
 use Rattle.layout.specs.declared.Geometry.{Geometry}
 use Rattle.layout.specs.Geometry.{num_journal_blocks, ValidGeometry}
 use Rattle.superblock.specs.declared.DiskOp.{DiskOp}
@@ -18,11 +19,12 @@ use Rattle.source.specs.JournalDisk as D
 use Rattle.source.specs.JournalCache.{Variables, SyncReqStatus, State1, State2, State3}
 use Rattle.source.specs.Limits.{limits}
 use Rattle.source.specs.Meets.{MachineMeets}
+use Rattle.loading.specs.Which.{is_second}
 use Rattle.machine.specs.declared.Machine.{Machine}
 use Rattle.machine.specs.Machine.{by_kind}
 use Rattle.machine.specs.Lent.{Lent}
-use Rattle.refine.specs.Machine.LoadingView.{superblocks_seen, other_seen, superblock_in}
-use Rattle.refine.specs.Machine.ReadyView.{ReadyLent, ready_of, id_of, slot_of}
+use Rattle.refine.specs.Machine.LoadingView.{superblocks_seen, other_seen}
+use Rattle.refine.specs.Machine.ReadyView.{ReadyLent, ready_of}
 use Rattle.refine.specs.Machine.ReadyForm.{ReadyForm}
 
 -- the memory beside a machine at work
@@ -49,13 +51,13 @@ whole_in journal_read.Whole jr = some jr
 whole_in journal_read.Damaged jr = none
 
 abbrev pub operation_of : DiskOp → JournalRange → D.DiskOp
-operation_of (op.ReqReadSuperblock id which) jr = D.ReqReadSuperblockOp id (slot_of which)
+operation_of (op.ReqReadSuperblock id which) jr = D.ReqReadSuperblockOp id (is_second which)
 operation_of (op.ReqReadJournal id v) jr = D.ReqReadJournalOp id v
-operation_of (op.ReqWriteSuperblock id which superblock) jr = D.ReqWriteSuperblockOp id (slot_of which) (record { superblock = superblock })
-operation_of (op.ReqWriteJournal id1 id2 start count) jr = D.ReqWriteJournalOp id1 (id_of id2) (record { journal = jr; start = start })
-operation_of (op.RespReadSuperblock id which superblock) jr = D.RespReadSuperblockOp id (slot_of which) (superblock_in superblock)
+operation_of (op.ReqWriteSuperblock id which superblock) jr = D.ReqWriteSuperblockOp id (is_second which) (record { superblock = superblock })
+operation_of (op.ReqWriteJournal id1 id2 start count) jr = D.ReqWriteJournalOp id1 (option_of id2) (record { journal = jr; start = start })
+operation_of (op.RespReadSuperblock id which superblock) jr = D.RespReadSuperblockOp id (is_second which) (option_of superblock)
 operation_of (op.RespReadJournal id read) jr = D.RespReadJournalOp id (whole_in read jr)
-operation_of (op.RespWriteSuperblock id which) jr = D.RespWriteSuperblockOp id (slot_of which)
+operation_of (op.RespWriteSuperblock id which) jr = D.RespWriteSuperblockOp id (is_second which)
 operation_of (op.RespWriteJournal id) jr = D.RespWriteJournalOp id
 operation_of op.NoDiskOp jr = D.NoDiskOp
 

@@ -1,13 +1,14 @@
 -- WriteBackJournalReq of a whole machine: the range goes to the front of a lent buffer of N blocks, and what is left of pending memory moves to
 -- the front.
-use Rattle.std.specs.Prelude.{ℕ, ◌+◌, ◌*◌, Bool, true, false, cond, ◌≡◌, refl, List, [], length}
+use Rattle.std.specs.Prelude.{ℕ, ◌+◌, ◌*◌, Bool, true, false, cond, ◌≡◌, refl, List, [], length, Ok}
+use Rattle.std.specs.declared.option.Option as code
 use Rattle.std.proofs.Math.Path.{sym, ap, subst}
 use Rattle.std.proofs.Common.{◌∙◌}
 use Rattle.laws.specs.Choice.{and_then_left, and_then_right, and_then_both, unless_done}
 use Rattle.laws.specs.Sets.{Map}
+use Rattle.laws.specs.Optional.{optional}
 use Rattle.layout.specs.declared.Geometry.{Geometry}
 use Rattle.layout.specs.Geometry.{num_journal_blocks}
-use Rattle.superblock.specs.declared.MaybeId.{MaybeId}
 use Rattle.superblock.specs.declared.DiskOp.{DiskOp}
 use Rattle.superblock.specs.declared.DiskOp.TheVariants as op
 use Rattle.journal.specs.Asked.{blocks_asked, asked_blocks}
@@ -16,7 +17,6 @@ use Rattle.tables.specs.declared.SyncTable.{SyncTable}
 use Rattle.tables.specs.SyncTable.{sync_map}
 use Rattle.range.specs.Form.{block_size}
 use Rattle.ready.specs.declared.Bodies.{Bodies}
-use Rattle.ready.specs.declared.Ready.{Ready}
 use Rattle.ready.specs.State.{none_frozen, sent, left}
 use Rattle.ready.specs.JournalSteps.{sent_blocks, write_back_journal_req_next}
 use Rattle.ready.specs.Laws.Asked.{write_asked}
@@ -31,13 +31,12 @@ use Rattle.source.specs.Within.{MachineAllowed, MachineWithin}
 use Rattle.source.proofs.Laws.Format.{limits_fit}
 use Rattle.machine.specs.declared.Kind.TheVariants as kind
 use Rattle.machine.specs.declared.Machine.{Machine}
-use Rattle.machine.specs.declared.MachineAnswer.TheVariants as answer
 use Rattle.machine.specs.Lent.{Lent}
 use Rattle.machine.specs.Questions.{bodies_of}
 use Rattle.machine.specs.Working.{sent_sync, ask_write_back_journal_req_step, write_back_journal_req_op, written_machine, write_back_journal_req_machine, sent_range, moved_bytes, moved_lens}
 use Rattle.machine.specs.Whole.{ask_machine_out, ask_write, write_back_journal_req, written_out, written_bytes, written_lens}
 use Rattle.machine.specs.Laws.Answers.{next_asked}
-use Rattle.refine.specs.Machine.ReadyView.{maybe_id, ready_of}
+use Rattle.refine.specs.Machine.ReadyView.{ready_of}
 use Rattle.refine.specs.Machine.ReadyJournal as R
 use Rattle.refine.specs.Machine.ReadyJournal.{moved_lent, written_sync}
 use Rattle.refine.specs.Machine.MachineView.{ready_lent, state_of, syncs_of, machine_of, operation_of, SizedMachine, MachineLent, MachineForm, MachineMet}
@@ -73,7 +72,7 @@ module _ (g : Geometry) (l : Lent) (m : Machine) where
   abbrev moved : Lent
   moved = record { bytes = moved_bytes m held l.bytes; lens = moved_lens m held l.lens; pieces = l.pieces; rbytes = l.rbytes; rlens = l.rlens }
 
-  module _ (id1 : ℕ) (id2 : MaybeId) where
+  module _ (id1 : ℕ) (id2 : code.Option ℕ) where
     abbrev next : Machine
     next = write_back_journal_req_machine m id1 id2 held
 
@@ -121,7 +120,7 @@ module _ (g : Geometry) (l : Lent) (m : Machine) where
 
   pub clauses_write : SizedMachine m → MachineForm l m → MachineMeets g limits (machine_of g l m) → (out : List ℕ) → length out ≡ num_journal_blocks g * block_size
       → (s' : Variables) (dop : D.DiskOp) (jr : JournalRange) → WriteBackJournalReq⁺ g format (machine_of g l m) s' dop jr → MachineCounts limits s'
-      → (id1 : ℕ) × (id2 : MaybeId)
+      → (id1 : ℕ) × (id2 : code.Option ℕ)
       × (ask_write_back_journal_req_step g m id1 id2 held ≡ 0)
       × (machine_of g moved (write_back_journal_req_machine m id1 id2 held) ≡ s')
       × (dop ≡ operation_of (write_back_journal_req_op g m id1 id2 held) jr)
@@ -132,7 +131,7 @@ module _ (g : Geometry) (l : Lent) (m : Machine) where
       let one = (work_out g l m (λ s. OneRange format (to_write s) jr) h.one_range).1 in
       let f = work_form g l m w.0 form in
       let id1 = w.1.id1 in
-      let id2 = maybe_id w.1.id2 in
+      let id2 = optional w.1.id2 in
       let few = (subst (MachineCounts limits) w.1.next counts).writes_few in
       let c = R.write_complete (ready_lent l) (syncs_of m) m.ready held f (bodies_found l m w.0) g z.writes s' dop jr w.1 one few in
       let may = write_asked g m.ready id1 id2 held c.0 in (
@@ -146,7 +145,7 @@ module _ (g : Geometry) (l : Lent) (m : Machine) where
 
 -- the whole step: what it leaves of pending memory, and the buffer
 module _ (g : Geometry) (l : Lent) (m : Machine) (z : SizedMachine m) (out : List ℕ) where
-  module _ (id1 : ℕ) (id2 : MaybeId) where
+  module _ (id1 : ℕ) (id2 : code.Option ℕ) where
     abbrev pub written_lent : Lent
     written_lent = record { bytes = written_bytes g l m id1 id2 out; lens = written_lens g l m id1 id2 out; pieces = l.pieces; rbytes = l.rbytes; rlens = l.rlens }
 
@@ -186,7 +185,7 @@ module _ (g : Geometry) (l : Lent) (m : Machine) (z : SizedMachine m) (out : Lis
               (write_clauses g l m id1 id2 met out (blocks_asked g out (and_then_left _ _ a)).size (and_then_right _ _ q)),
         )
 
-    pub write_sound : (o : DiskOp) → (write_back_journal_req g l m id1 id2 out).answer ≡ answer.Next o
+    pub write_sound : (o : DiskOp) → (write_back_journal_req g l m id1 id2 out).answer ≡ Ok o
         → MachineAllowed g format limits (machine_of g l m) (machine_of g written_lent (write_back_journal_req g l m id1 id2 out).machine)
         (operation_of o (sent_in o (written_out g l m id1 id2 out))) (Source (WriteBackJournalReqStep (sent_in o (written_out g l m id1 id2 out))))
     write_sound o e =
@@ -202,8 +201,8 @@ module _ (g : Geometry) (l : Lent) (m : Machine) (z : SizedMachine m) (out : Lis
   pub write_complete : MachineLent g l → MachineForm l m → length out ≡ num_journal_blocks g * block_size → (s' : Variables) (dop : D.DiskOp) (jr : JournalRange)
       → MachineAllowed g format limits (machine_of g l m) s' dop (Source (WriteBackJournalReqStep jr))
       → MachineWithin g limits (machine_of g l m) s' dop (Source (WriteBackJournalReqStep jr))
-      → (id1 : ℕ) × (id2 : MaybeId)
-      × ((write_back_journal_req g l m id1 id2 out).answer ≡ answer.Next (write_back_journal_req_op g m id1 id2 (bodies_of l.lens m)))
+      → (id1 : ℕ) × (id2 : code.Option ℕ)
+      × ((write_back_journal_req g l m id1 id2 out).answer ≡ Ok (write_back_journal_req_op g m id1 id2 (bodies_of l.lens m)))
       × (dop ≡ operation_of (write_back_journal_req_op g m id1 id2 (bodies_of l.lens m)) (written_range id1 id2))
       × (jr ≡ written_range id1 id2)
       × (machine_of g (written_lent id1 id2) (write_back_journal_req g l m id1 id2 out).machine ≡ s')

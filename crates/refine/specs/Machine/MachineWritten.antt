@@ -1,5 +1,5 @@
 -- WriteBackJournalResp of a whole machine, in every kind: an answer that a journal write awaits, and one that nobody awaits.
-use Rattle.std.specs.Prelude.{ℕ, true, ◌≡◌, refl, [], ◌⊎◌}
+use Rattle.std.specs.Prelude.{ℕ, true, ◌≡◌, refl, [], ◌⊎◌, Ok}
 use Rattle.std.proofs.Math.Path.{sym, ap}
 use Rattle.std.proofs.Common.{◌∙◌, subst, inl, inr, ⊎_elim}
 use Rattle.laws.specs.Choice.{split_bool, not_so, true_false}
@@ -19,7 +19,6 @@ use Rattle.source.specs.Within.{MachineAllowed}
 use Rattle.source.proofs.Laws.Cases.{by_ready}
 use Rattle.machine.specs.declared.Kind.TheVariants as kind
 use Rattle.machine.specs.declared.Machine.{Machine}
-use Rattle.machine.specs.declared.MachineAnswer.TheVariants as answer
 use Rattle.machine.specs.Machine.{with_ready}
 use Rattle.machine.specs.Lent.{Lent}
 use Rattle.machine.specs.Questions.{ask_machine}
@@ -98,7 +97,7 @@ journal_resp_said s s' dop h = by_ready (λ v. (id : ℕ) × (dop ≡ operation_
 
 -- the whole step
 module _ (g : Geometry) (l : Lent) (m : Machine) (z : SizedMachine m) (id : ℕ) where
-  pub journal_resp_sound : (o : DiskOp) → (write_back_journal_resp g l m id).answer ≡ answer.Next o
+  pub journal_resp_sound : (o : DiskOp) → (write_back_journal_resp g l m id).answer ≡ Ok o
       → MachineAllowed g format limits (machine_of g l m) (machine_of g l (write_back_journal_resp g l m id).machine) (operation_of o []) (Source WriteBackJournalRespStep)
       ⊎ MachineAllowed g format limits (machine_of g l m) (machine_of g l (write_back_journal_resp g l m id).machine) (operation_of o []) (Source NoOpStep)
   journal_resp_sound o e =
@@ -110,16 +109,16 @@ module _ (g : Geometry) (l : Lent) (m : Machine) (z : SizedMachine m) (id : ℕ)
 
   module _ (t : MachineLent g l) (form : MachineForm l m) (s' : Variables) where
     taken_to : MachineMeets g limits (machine_of g l m) → machine_of g l (write_back_journal_resp_machine m id) ≡ s'
-        → ((write_back_journal_resp g l m id).answer ≡ answer.Next (write_back_journal_resp_op id)) × (machine_of g l (write_back_journal_resp g l m id).machine ≡ s')
+        → ((write_back_journal_resp g l m id).answer ≡ Ok (write_back_journal_resp_op id)) × (machine_of g l (write_back_journal_resp g l m id).machine ≡ s')
     taken_to meets e =
         answered_by_is g l m (ask_machine g l m) (write_back_journal_resp_op id) (write_back_journal_resp_machine m id) l l (λ k. refl) s'
         (met_machine g l m z (record { lent = t; form = form; meets = meets }))
         e
 
     pub journal_resp_complete : MachineAllowed g format limits (machine_of g l m) s' (operation_of (write_back_journal_resp_op id) []) (Source WriteBackJournalRespStep)
-        → ((write_back_journal_resp g l m id).answer ≡ answer.Next (write_back_journal_resp_op id)) × (machine_of g l (write_back_journal_resp g l m id).machine ≡ s')
+        → ((write_back_journal_resp g l m id).answer ≡ Ok (write_back_journal_resp_op id)) × (machine_of g l (write_back_journal_resp g l m id).machine ≡ s')
     journal_resp_complete a = taken_to a.meets (clauses_journal_resp g l m form id s' a.step)
 
     pub journal_resp_no_op : MachineAllowed g format limits (machine_of g l m) s' (operation_of (write_back_journal_resp_op id) []) (Source NoOpStep)
-        → ((write_back_journal_resp g l m id).answer ≡ answer.Next (write_back_journal_resp_op id)) × (machine_of g l (write_back_journal_resp g l m id).machine ≡ s')
+        → ((write_back_journal_resp g l m id).answer ≡ Ok (write_back_journal_resp_op id)) × (machine_of g l (write_back_journal_resp g l m id).machine ≡ s')
     journal_resp_no_op a = taken_to a.meets (no_op_journal_resp g l m form id s' a.step)

@@ -1,49 +1,46 @@
 -- The enums of a machine at work, case by case, in the record and in the view.
-use Rattle.std.specs.Prelude.{ℕ, ◌≤◌, true, false, cond, not, ◌≡◌, refl, ◌↔◌, eqb}
+use Rattle.std.specs.Prelude.{ℕ, ◌≤◌, true, false, cond, not, ◌≡◌, refl, ◌↔◌, eqb, None, Some}
+use Rattle.std.specs.declared.option.Option as code
 use Rattle.std.proofs.Common.{sym, ◌∙◌, ap, arith, eqb-true, eq-eqb}
-use Rattle.std.proofs.Math.Option.{Option, none, some, some-injective}
+use Rattle.std.proofs.Math.Option.{none, some, some-injective}
 use Rattle.laws.specs.Choice.{ruin, split_eq, not_so, true_false}
 use Rattle.laws.specs.Sets.{none_some}
+use Rattle.laws.specs.Optional.{option_of, option_same}
 use Rattle.layout.specs.declared.Location.{Location}
-use Rattle.ready.specs.declared.MaybeLocation.{MaybeLocation}
-use Rattle.ready.specs.declared.MaybeLocation.TheVariants.{NoLocation, Received}
+use Rattle.loading.specs.Which.{is_second}
 use Rattle.ready.specs.declared.Commit.{Commit}
 use Rattle.ready.specs.declared.Commit.TheVariants as commit
 use Rattle.ready.specs.State.{is_received, is_location, no_commit, awaits_id}
 use Rattle.ready.specs.Laws.Facts.{received_is, is_received_is}
-use Rattle.source.specs.JournalDisk.{ReqId}
-use Rattle.source.specs.JournalCache.{CommitNone, Some}
-use Rattle.refine.specs.Machine.ReadyView.{location_of, id_of, maybe_id, slot_of, write_of, status_of, new_of}
+use Rattle.source.specs.JournalCache as M
+use Rattle.source.specs.JournalCache.{CommitNone}
+use Rattle.refine.specs.Machine.ReadyView.{write_of, status_of, new_of}
 
 -- a received location
-pub location_seen : (m : MaybeLocation) (loc : Location) → location_of m ≡ some loc → m ≡ Received loc
-location_seen NoLocation loc e = ruin (cc)
-location_seen (Received received) loc e = ap Received (some-injective received loc e)
+pub received_seen : (m : code.Option Location) → is_received m ≡ true → M.Some (option_of m)
+received_seen None e = ruin (cc)
+received_seen (Some loc) e = (loc, refl)
 
-pub received_seen : (m : MaybeLocation) → is_received m ≡ true → Some (location_of m)
-received_seen NoLocation e = ruin (cc)
-received_seen (Received loc) e = (loc, refl)
+pub seen_received : (m : code.Option Location) → M.Some (option_of m) → is_received m ≡ true
+seen_received None s = none_some refl s.1
+seen_received (Some loc) s = refl
 
-pub seen_received : (m : MaybeLocation) → Some (location_of m) → is_received m ≡ true
-seen_received NoLocation s = none_some refl s.1
-seen_received (Received loc) s = refl
+pub none_seen : (m : code.Option Location) → is_received m ≡ false → option_of m ≡ none
+none_seen None e = refl
+none_seen (Some loc) e = true_false e
 
-pub none_seen : (m : MaybeLocation) → is_received m ≡ false → location_of m ≡ none
-none_seen NoLocation e = refl
-none_seen (Received loc) e = true_false e
+pub seen_none : (m : code.Option Location) → option_of m ≡ none → is_received m ≡ false
+seen_none None e = refl
+seen_none (Some loc) e = ruin (cc)
 
-pub seen_none : (m : MaybeLocation) → location_of m ≡ none → is_received m ≡ false
-seen_none NoLocation e = refl
-seen_none (Received loc) e = ruin (cc)
+pub other_seen_is : (m : code.Option Location) (loc : Location) → is_location m loc ≡ false → option_of m ≡ some loc → ⊥
+other_seen_is m loc e h = true_false (sym (is_received_is m loc (option_same m (Some loc) h)) ∙ e)
 
-pub other_seen_is : (m : MaybeLocation) (loc : Location) → is_location m loc ≡ false → location_of m ≡ some loc → ⊥
-other_seen_is m loc e h = true_false (sym (is_received_is m loc (location_seen m loc h)) ∙ e)
-
-pub seen_other : (m : MaybeLocation) (loc : Location) → (location_of m ≡ some loc → ⊥) → is_location m loc ≡ false
-seen_other m loc f = not_so (is_location m loc) (λ e. f (ap location_of (received_is m loc e)))
+pub seen_other : (m : code.Option Location) (loc : Location) → (option_of m ≡ some loc → ⊥) → is_location m loc ≡ false
+seen_other m loc f = not_so (is_location m loc) (λ e. f (ap option_of (received_is m loc e)))
 
 -- a commit in flight: its id, its status and its superblock go together by the type
-pub commit_new : (c : Commit) → Some (write_of c) ↔ Some (new_of c)
+pub commit_new : (c : Commit) → M.Some (write_of c) ↔ M.Some (new_of c)
 commit_new commit.CommitNone = (λ s. none_some refl s.1, λ s. none_some refl s.1)
 commit_new (commit.CommitAdvanceLog id new) = (λ s. (new, refl), λ s. (id, refl))
 commit_new (commit.CommitAdvanceLocation id new) = (λ s. (new, refl), λ s. (id, refl))
@@ -64,16 +61,11 @@ flight_none (commit.CommitAdvanceLog id new) e = ruin (cc)
 flight_none (commit.CommitAdvanceLocation id new) e = ruin (cc)
 
 -- the other slot
-pub slot_other : (which : ℕ) → which ≤ 1 → slot_of (cond (eqb which 0) 1 0) ≡ not (slot_of which)
+pub slot_other : (which : ℕ) → which ≤ 1 → is_second (cond (eqb which 0) 1 0) ≡ not (is_second which)
 slot_other which h =
     split_eq which 0
     (λ z. simp z)
     (λ n. let o : which ≡ 1 = omega arith in simp o)
-
--- an id or none
-pub id_seen : (o : Option ReqId) → id_of (maybe_id o) ≡ o
-id_seen none = refl
-id_seen (some id) = refl
 
 -- the id that a commit in flight awaits
 pub awaits_seen : (c : Commit) (id : ℕ) → awaits_id c id ≡ true → write_of c ≡ some id

@@ -1,18 +1,19 @@
 -- Both commit requests and a commit's answer against 000.
-use Rattle.std.specs.Prelude.{◌-◌, ◌≤◌, Bool, cond, not, ◌≡◌, refl, [], eqb}
+use Rattle.std.specs.Prelude.{◌-◌, ◌≤◌, Bool, cond, not, ◌≡◌, refl, [], eqb, Some}
 use Rattle.std.proofs.Math.Bool.{true, false}
 use Rattle.std.proofs.Math.Path.{sym, ap}
 use Rattle.std.proofs.Common.{◌∙◌, eqb-true}
 use Rattle.std.proofs.Math.Option.{none, some, some-injective}
 use Rattle.laws.specs.Choice.{ruin, false_true, true_false}
 use Rattle.laws.specs.Sets.{Map, none_some}
+use Rattle.laws.specs.Optional.{option_of, option_same}
 use Rattle.layout.specs.declared.Geometry.{Geometry}
 use Rattle.layout.specs.declared.Location.{Location}
 use Rattle.superblock.specs.declared.Superblock.{Superblock}
 use Rattle.tables.proofs.Laws.IdTables.{ids_none}
+use Rattle.loading.specs.Which.{is_second}
 use Rattle.ready.specs.declared.Commit.{Commit}
 use Rattle.ready.specs.declared.Commit.TheVariants as commit
-use Rattle.ready.specs.declared.MaybeLocation.TheVariants.{Received}
 use Rattle.ready.specs.declared.Ready.{Ready}
 use Rattle.ready.specs.State.{awaits_id, commit_slot, with_commit}
 use Rattle.ready.specs.CommitSteps.{ask_advance_log, advanced_log, advance_log_next, ask_advance_location, advanced_location, advance_location_next, log_committed, location_committed, answered, write_back_superblock_resp_next}
@@ -20,13 +21,13 @@ use Rattle.ready.specs.Laws.Asked.{MayCommit, log_asked, asks_log, location_aske
 use Rattle.source.specs.JournalDisk.{ReqId, DiskOp, ReqWriteSuperblockOp, RespWriteSuperblockOp}
 use Rattle.source.specs.JournalCache as M
 use Rattle.source.specs.JournalCache.{SyncReqStatus, ReadyVariables, sync_reqs2to1, to_new_superblock, to_superblock_write, to_commit_status, to_superblock, to_which_superblock, to_sync_reqs, to_written_journal_len, to_frozen_journal_position, to_frozen_loc, to_is_frozen, WriteBackSuperblockReq-AdvanceLogClauses, WriteBackSuperblockReq-AdvanceLocationClauses, WriteBackSuperblockRespClauses}
-use Rattle.refine.specs.Machine.ReadyView.{ReadyLent, location_of, slot_of, status_of, ready_of}
-use Rattle.refine.specs.Machine.ReadyCases.{location_seen, seen_received, commit_status_is, none_flight, flight_none, slot_other, seen_awaits}
+use Rattle.refine.specs.Machine.ReadyView.{ReadyLent, status_of, ready_of}
+use Rattle.refine.specs.Machine.ReadyCases.{seen_received, commit_status_is, none_flight, flight_none, slot_other, seen_awaits}
 use Rattle.refine.specs.Machine.ReadyForm.{ReadyForm, table_none, none_frozen_is, frozen_none}
 
 -- the operation of either commit: the other slot, and the new superblock
 abbrev pub commit_op : Ready → ReqId → Superblock → DiskOp
-commit_op r id s = ReqWriteSuperblockOp id (slot_of (commit_slot r)) (record { superblock = s })
+commit_op r id s = ReqWriteSuperblockOp id (is_second (commit_slot r)) (record { superblock = s })
 
 module _ (g : Geometry) (l : ReadyLent) (sync : Map SyncReqStatus) (r : Ready) (f : ReadyForm l r) where
   may_commit_is : status_of r.commit ≡ M.CommitStatus.CommitNone → M.NoneOutstanding (ready_of l sync r) → (ready_of l sync r).in_memory_journal_frozen ≡ [] → MayCommit r
@@ -45,7 +46,7 @@ module _ (g : Geometry) (l : ReadyLent) (sync : Map SyncReqStatus) (r : Ready) (
       let m = log_asked g r q in
       record {
         id = id;
-        which = slot_of (commit_slot r);
+        which = is_second (commit_slot r);
         req = record { superblock = advanced_log r };
         op = refl;
         no_commit_is = (commit_status_is r.commit).0 (none_flight r.commit m.commit.no_commit_is);
@@ -67,7 +68,7 @@ module _ (g : Geometry) (l : ReadyLent) (sync : Map SyncReqStatus) (r : Ready) (
   )
 
   -- a location commit
-  pub location_sound : (id : ReqId) (loc : Location) → r.frozen.frozenLoc ≡ Received loc → ask_advance_location g r ≡ 0
+  pub location_sound : (id : ReqId) (loc : Location) → r.frozen.frozenLoc ≡ Some loc → ask_advance_location g r ≡ 0
       → WriteBackSuperblockReq-AdvanceLocationClauses g (ready_of l sync r) (M.Variables.Ready (ready_of l sync (advance_location_next r id (advanced_location g r loc))))
       (commit_op r id (advanced_location g r loc))
   unfolding advanced_location
@@ -75,11 +76,11 @@ module _ (g : Geometry) (l : ReadyLent) (sync : Map SyncReqStatus) (r : Ready) (
       let m = location_asked g r q in
       record {
         id = id;
-        which = slot_of (commit_slot r);
+        which = is_second (commit_slot r);
         req = record { superblock = advanced_location g r loc };
         op = refl;
         loc = loc;
-        received = ap location_of e;
+        received = ap option_of e;
         no_commit_is = (commit_status_is r.commit).0 (none_flight r.commit m.commit.no_commit_is);
         all_written = ids_none r.writes m.commit.none_outstanding_is;
         none_frozen_is = none_frozen_is l r.entries f.pending m.commit.none_frozen_is;
@@ -92,13 +93,13 @@ module _ (g : Geometry) (l : ReadyLent) (sync : Map SyncReqStatus) (r : Ready) (
       }
 
   pub location_complete : (s' : M.Variables) (dop : DiskOp) (h : WriteBackSuperblockReq-AdvanceLocationClauses g (ready_of l sync r) s' dop)
-      → (r.frozen.frozenLoc ≡ Received h.loc)
+      → (r.frozen.frozenLoc ≡ Some h.loc)
       × (ask_advance_location g r ≡ 0)
       × (M.Variables.Ready (ready_of l sync (advance_location_next r h.id (advanced_location g r h.loc))) ≡ s')
       × (dop ≡ commit_op r h.id (advanced_location g r h.loc))
   unfolding advanced_location
   location_complete s' dop h = (
-    location_seen r.frozen.frozenLoc h.loc h.received,
+    option_same r.frozen.frozenLoc (Some h.loc) h.received,
     asks_location g r
         (record {
           received = seen_received r.frozen.frozenLoc (h.loc, h.received);

@@ -5,7 +5,7 @@ use Rattle.std.proofs.Common.{sym, ◌∙◌, ap, arith, length-drop, take-appen
 use Rattle.laws.specs.Choice.{also, also_left, also_right, also_both}
 use Rattle.laws.specs.Fold.{sum, every, sum_append, every_append}
 use Rattle.laws.specs.Cut.{lengths, lengths_append}
-use Rattle.laws.specs.Sets.{empty_ids, Distinct}
+use Rattle.laws.specs.Sets.{empty_ids}
 use Rattle.tables.specs.declared.IdTable.{IdTable}
 use Rattle.tables.specs.IdTable.{id_set}
 use Rattle.tables.proofs.Laws.IdTables.{none_ids}
@@ -15,6 +15,8 @@ use Rattle.ready.specs.declared.Entries.{Entries}
 use Rattle.ready.specs.declared.Ready.{Ready}
 use Rattle.codec.specs.Codec.{JournalEntry, EntriesFit}
 use Rattle.codec.specs.Format.{fit_lengths, lengths_fit}
+use Rattle.refine.specs.Disk.View.{Table}
+use Rattle.refine.specs.Disk.Meets.{counted_own}
 use Rattle.refine.specs.Machine.ReadyView.{ReadyLent, frozen_of, memory_of, replay_of}
 
 -- of pending memory
@@ -34,20 +36,15 @@ pub record Given (bodies sizes : List ℕ) (k : ℕ) : Type 0 where
   pub there : k ≤ length sizes
   pub fit : total sizes k ≤ length bodies
 
--- of a table of ids
-pub record TableForm (t : IdTable) : Type 0 where
-  pub in_array : t.count ≤ length t.ids
-  pub differ : Distinct (take t.count t.ids)
-
 pub record ReadyForm (l : ReadyLent) (r : Ready) : Type 0 where
   pub which_in : r.whichSuperblock ≤ 1
   pub pending : PendingForm l r.entries
   pub replay : ReplayForm l r.entries
-  pub writes : TableForm r.writes
+  pub writes : Table r.writes.count r.writes.ids
 
 -- no id is in use where the set is empty
-pub table_none : (t : IdTable) → TableForm t → id_set t ≡ empty_ids → t.count ≡ 0
-table_none t f e = none_ids t t.count (record { few = omega arith; in_array = f.in_array; differ = f.differ }) e
+pub table_none : (t : IdTable) → Table t.count t.ids → id_set t ≡ empty_ids → t.count ≡ 0
+table_none t f e = none_ids t t.count (counted_own t.count t.ids f) e
 
 -- entries of an allowed length, one by one and by their lengths
 pub each_fit : (most : ℕ) (es : List JournalEntry) (ns : List ℕ) → lengths es ≡ ns → every (ok_length most) ns ≡ true → EntriesFit most es

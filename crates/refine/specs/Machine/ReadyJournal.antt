@@ -1,5 +1,6 @@
 -- WriteBackJournalReq and WriteBackJournalResp against 000, over document 01's range format.
-use Rattle.std.specs.Prelude.{ℕ, ◌+◌, ◌-◌, ◌≤◌, Bool, ◌≡◌, take}
+use Rattle.std.specs.Prelude.{ℕ, ◌+◌, ◌-◌, ◌≤◌, Bool, ◌≡◌, take, None, Some}
+use Rattle.std.specs.declared.option.Option as code
 use Rattle.std.proofs.Math.Bool.{true, false, cond}
 use Rattle.std.proofs.Math.Path.{refl, sym, ap}
 use Rattle.std.proofs.Common.{◌∙◌, subst, eq-eqb, ne_eqb, eqb-true}
@@ -11,10 +12,9 @@ use Rattle.std.proofs.Math.ListN.{length, drop}
 use Rattle.laws.specs.Choice.{and_then_left, and_then_right, and_then_both}
 use Rattle.laws.specs.Sets.{Ids, Map, join, leave, AtMost, few_before, leave_same}
 use Rattle.laws.specs.Splice.{splice}
+use Rattle.laws.specs.Optional.{optional, option_of, option_of_optional}
 use Rattle.layout.specs.declared.Geometry.{Geometry}
 use Rattle.layout.specs.Journal.{journal_pos_add}
-use Rattle.superblock.specs.declared.MaybeId.{MaybeId}
-use Rattle.superblock.specs.declared.MaybeId.TheVariants.{Id, NoId}
 use Rattle.tables.specs.declared.IdTable.{IdTable}
 use Rattle.tables.specs.Rows.{Counted, ask_join}
 use Rattle.tables.specs.IdTable.{id_set, SizedIds, joined_id}
@@ -23,7 +23,7 @@ use Rattle.tables.proofs.Laws.IdTables.{ids_joined, ids_joined_ok, ids_left, siz
 use Rattle.range.specs.Form as Form
 use Rattle.range.specs.Form.{most_entry_length, length_width, used, blocks_for}
 use Rattle.range.specs.Memory.{view, total, total_split, view_none, length_view, view_moved, blocks_at_view}
-use Rattle.memory.specs.declared.Count.{Count}
+use Rattle.range.specs.declared.Count.{Count}
 use Rattle.ready.specs.declared.Entries.{Entries}
 use Rattle.ready.specs.declared.Bodies.{Bodies}
 use Rattle.ready.specs.declared.Ready.{Ready}
@@ -40,29 +40,27 @@ use Rattle.source.specs.Limits.{Limits, Fitting}
 use Rattle.source.specs.Meets.{MachineMeets}
 use Rattle.source.specs.Departures.{OneRange}
 use Rattle.source.proofs.Laws.Format.{write_good}
-use Rattle.refine.specs.Machine.ReadyView.{ReadyLent, id_of, maybe_id, frozen_of, memory_of, ready_of}
-use Rattle.refine.specs.Machine.ReadyCases.{none_flight, flight_none, id_seen}
-use Rattle.refine.specs.Machine.ReadyForm.{PendingForm, TableForm, ReadyForm, length_frozen}
-
--- a table in form, as its own laws take it
-counted_form : (t : IdTable) → TableForm t → Counted t.count t.count t.ids
-counted_form t f = record { few = omega arith; in_array = f.in_array; differ = f.differ }
+use Rattle.refine.specs.Disk.View.{Table}
+use Rattle.refine.specs.Disk.Meets.{counted_own}
+use Rattle.refine.specs.Machine.ReadyView.{ReadyLent, frozen_of, memory_of, ready_of}
+use Rattle.refine.specs.Machine.ReadyCases.{none_flight, flight_none}
+use Rattle.refine.specs.Machine.ReadyForm.{PendingForm, ReadyForm, length_frozen}
 
 -- the ids join the set
-ids_join : (t : IdTable) (id1 : ℕ) (id2 : MaybeId) → ask_ids t id1 id2 ≡ 0 → id_set (joined_ids t id1 id2) ≡ join_ids (id_set t) id1 (id_of id2)
+ids_join : (t : IdTable) (id1 : ℕ) (id2 : code.Option ℕ) → ask_ids t id1 id2 ≡ 0 → id_set (joined_ids t id1 id2) ≡ join_ids (id_set t) id1 (option_of id2)
 unfolding ask_ids
-ids_join t id1 NoId q = ids_joined t most_writes id1 (and_then_left _ _ q)
-ids_join t id1 (Id id2) q =
-    ids_joined (joined_id t id1) most_writes id2 (and_then_right (ask_join most_writes t.count t.ids id1) (ask_second t id1 (Id id2)) q)
+ids_join t id1 None q = ids_joined t most_writes id1 (and_then_left _ _ q)
+ids_join t id1 (Some id2) q =
+    ids_joined (joined_id t id1) most_writes id2 (and_then_right (ask_join most_writes t.count t.ids id1) (ask_second t id1 (Some id2)) q)
     ∙ ap (λ (s : Ids). join s id2) (ids_joined t most_writes id1 (and_then_left _ _ q))
 
 -- and find room where the set then has at most so many
-ids_room : (t : IdTable) (id1 : ℕ) (id2 : MaybeId) → SizedIds t → Counted most_writes t.count t.ids → AtMost most_writes (join_ids (id_set t) id1 (id_of id2)) → ask_ids t id1 id2 ≡ 0
+ids_room : (t : IdTable) (id1 : ℕ) (id2 : code.Option ℕ) → SizedIds t → Counted most_writes t.count t.ids → AtMost most_writes (join_ids (id_set t) id1 (option_of id2)) → ask_ids t id1 id2 ≡ 0
 unfolding ask_ids
-ids_room t id1 NoId z c m = and_then_both _ _ (few_join most_writes t.count t.ids c most_writes id1 (omega (arith, z.ids_long)) m) refl
-ids_room t id1 (Id id2) z c m =
+ids_room t id1 None z c m = and_then_both _ _ (few_join most_writes t.count t.ids c most_writes id1 (omega (arith, z.ids_long)) m) refl
+ids_room t id1 (Some id2) z c m =
     let q = few_join most_writes t.count t.ids c most_writes id1 (omega (arith, z.ids_long)) (few_before most_writes (join (id_set t) id1) id2 m) in
-    and_then_both (ask_join most_writes t.count t.ids id1) (ask_second t id1 (Id id2)) q
+    and_then_both (ask_join most_writes t.count t.ids id1) (ask_second t id1 (Some id2)) q
     (few_join most_writes (joined_id t id1).count (joined_id t id1).ids (ids_joined_ok t most_writes c id1 q) most_writes id2
     (omega (arith, (sized_joined_ids t z id1).ids_long))
     (subst (λ (s : Ids). AtMost most_writes (join s id2)) (sym (ids_joined t most_writes id1 q)) m))
@@ -156,8 +154,8 @@ module _ (l : ReadyLent) (e : Entries) (b : Bodies) (p : PendingForm l e) (found
 abbrev pub sent_range : ReadyVariables → JournalRange
 sent_range s = format.encode (to_write s)
 
-abbrev pub write_op : ReadyVariables → ReqId → MaybeId → ℕ → DiskOp
-write_op s id1 id2 start = ReqWriteJournalOp id1 (id_of id2) (record { journal = sent_range s; start = start })
+abbrev pub write_op : ReadyVariables → ReqId → code.Option ℕ → ℕ → DiskOp
+write_op s id1 id2 start = ReqWriteJournalOp id1 (option_of id2) (record { journal = sent_range s; start = start })
 
 -- sync requests move where entries in memory are sent
 abbrev pub written_sync : Entries → Map SyncReqStatus → Map SyncReqStatus
@@ -171,10 +169,10 @@ module _ (l : ReadyLent) (sync : Map SyncReqStatus) (r : Ready) (b : Bodies) (fo
   blocks_sent = sent_blocks_is l r.entries b form.pending found
 
   -- the view of the next record and of moved memory is 000's next state
-  write_next : (id1 : ReqId) (id2 : MaybeId) (written : ℕ) → ask_ids r.writes id1 id2 ≡ 0 → written ≡ r.writtenJournalLen + sent_blocks r b
+  write_next : (id1 : ReqId) (id2 : code.Option ℕ) (written : ℕ) → ask_ids r.writes id1 id2 ≡ 0 → written ≡ r.writtenJournalLen + sent_blocks r b
       → M.Variables.Ready (ready_of (moved_lent l (sent r.entries b) (left r.entries b)) (written_sync r.entries sync) (write_back_journal_req_next r id1 id2 written))
       ≡ M.Variables.Ready
-      (to_outstanding_journal_writes (join_ids (id_set r.writes) id1 (id_of id2))
+      (to_outstanding_journal_writes (join_ids (id_set r.writes) id1 (option_of id2))
       (to_written_journal_len (r.writtenJournalLen + length (sent_range s))
       (to_frozen_journal_position (if_none (frozen_of l r.entries) r.frozen.frozenJournalPosition (r.writtenJournalLen + length (sent_range s)))
       (to_in_memory_journal (if_none (frozen_of l r.entries) [] (memory_of l r.entries))
@@ -217,7 +215,7 @@ module _ (l : ReadyLent) (sync : Map SyncReqStatus) (r : Ready) (b : Bodies) (fo
   abbrev written : ℕ
   written = r.writtenJournalLen + sent_blocks r b
 
-  pub write_sound : (g : Geometry) (L : Limits) → Fitting format L → MachineMeets g L (M.Variables.Ready s) → (id1 : ReqId) (id2 : MaybeId) → ask_write_back_journal_req g r id1 id2 b ≡ 0
+  pub write_sound : (g : Geometry) (L : Limits) → Fitting format L → MachineMeets g L (M.Variables.Ready s) → (id1 : ReqId) (id2 : code.Option ℕ) → ask_write_back_journal_req g r id1 id2 b ≡ 0
       → WriteBackJournalReqClauses g format s
       (M.Variables.Ready (ready_of (moved_lent l (sent r.entries b) (left r.entries b)) (written_sync r.entries sync) (write_back_journal_req_next r id1 id2 written)))
       (write_op s id1 id2 (start g)) (sent_range s)
@@ -232,7 +230,7 @@ module _ (l : ReadyLent) (sync : Map SyncReqStatus) (r : Ready) (b : Bodies) (fo
       start_in = m.start_in;
       written_in = m.written_in;
       id1 = id1;
-      id2 = id_of id2;
+      id2 = option_of id2;
       req = record { journal = sent_range s; start = start g };
       op = refl;
       journal_is = refl;
@@ -251,11 +249,11 @@ module _ (l : ReadyLent) (sync : Map SyncReqStatus) (r : Ready) (b : Bodies) (fo
 
   pub write_complete : (g : Geometry) → SizedIds r.writes → (s' : M.Variables) (dop : DiskOp) (jr : JournalRange) (h : WriteBackJournalReqClauses g format s s' dop jr)
       → OneRange format (to_write s) jr → AtMost most_writes (join_ids (id_set r.writes) h.id1 h.id2)
-      → (ask_write_back_journal_req g r h.id1 (maybe_id h.id2) b ≡ 0)
+      → (ask_write_back_journal_req g r h.id1 (optional h.id2) b ≡ 0)
       × (M.Variables.Ready
-      (ready_of (moved_lent l (sent r.entries b) (left r.entries b)) (written_sync r.entries sync) (write_back_journal_req_next r h.id1 (maybe_id h.id2) written))
+      (ready_of (moved_lent l (sent r.entries b) (left r.entries b)) (written_sync r.entries sync) (write_back_journal_req_next r h.id1 (optional h.id2) written))
       ≡ s')
-      × (dop ≡ write_op s h.id1 (maybe_id h.id2) (start g))
+      × (dop ≡ write_op s h.id1 (optional h.id2) (start g))
   write_complete g z s' dop jr h one few = (
     asks_write g r h.id1 id2 b
         (record {
@@ -267,20 +265,20 @@ module _ (l : ReadyLent) (sync : Map SyncReqStatus) (r : Ready) (b : Bodies) (fo
           ids_fit = room;
         }),
     write_next h.id1 id2 written room refl ∙ same ∙ sym h.next,
-    h.op ∙ (λ i. ReqWriteJournalOp h.id1 (sym (id_seen h.id2) i) (record { journal = (h.journal_is ∙ one.range_is) i; start = h.start_is i })),
+    h.op ∙ (λ i. ReqWriteJournalOp h.id1 (sym (option_of_optional h.id2) i) (record { journal = (h.journal_is ∙ one.range_is) i; start = h.start_is i })),
   )
     where
-      id2 : MaybeId
-      id2 = maybe_id h.id2
+      id2 : code.Option ℕ
+      id2 = optional h.id2
 
-      few2 : AtMost most_writes (join_ids (id_set r.writes) h.id1 (id_of id2))
-      few2 = subst (λ (o : Option ReqId). AtMost most_writes (join_ids (id_set r.writes) h.id1 o)) (sym (id_seen h.id2)) few
+      few2 : AtMost most_writes (join_ids (id_set r.writes) h.id1 (option_of id2))
+      few2 = subst (λ (o : Option ReqId). AtMost most_writes (join_ids (id_set r.writes) h.id1 o)) (sym (option_of_optional h.id2)) few
 
       counted : Counted most_writes r.writes.count r.writes.ids
       counted =
           record {
             few =
-                few_count r.writes.count r.writes.count r.writes.ids (counted_form r.writes form.writes) most_writes
+                few_count r.writes.count r.writes.count r.writes.ids (counted_own r.writes.count r.writes.ids form.writes) most_writes
                 (joined_before (id_set r.writes) h.id1 h.id2 few);
             in_array = form.writes.in_array;
             differ = form.writes.differ;
@@ -291,7 +289,7 @@ module _ (l : ReadyLent) (sync : Map SyncReqStatus) (r : Ready) (b : Bodies) (fo
 
       -- the next state's ids and blocks are the predicate's
       same : M.Variables.Ready
-          (to_outstanding_journal_writes (join_ids (id_set r.writes) h.id1 (id_of id2))
+          (to_outstanding_journal_writes (join_ids (id_set r.writes) h.id1 (option_of id2))
           (to_written_journal_len (r.writtenJournalLen + length (sent_range s))
           (to_frozen_journal_position (if_none (frozen_of l r.entries) r.frozen.frozenJournalPosition (r.writtenJournalLen + length (sent_range s)))
           (to_in_memory_journal (if_none (frozen_of l r.entries) [] (memory_of l r.entries))
@@ -307,7 +305,7 @@ module _ (l : ReadyLent) (sync : Map SyncReqStatus) (r : Ready) (b : Bodies) (fo
       same =
           λ i.
           M.Variables.Ready
-          (to_outstanding_journal_writes (join_ids (id_set r.writes) h.id1 (id_seen h.id2 i))
+          (to_outstanding_journal_writes (join_ids (id_set r.writes) h.id1 (option_of_optional h.id2 i))
           (to_written_journal_len (r.writtenJournalLen + length (sym one.range_is i))
           (to_frozen_journal_position (if_none (frozen_of l r.entries) r.frozen.frozenJournalPosition (r.writtenJournalLen + length (sym one.range_is i)))
           (to_in_memory_journal (if_none (frozen_of l r.entries) [] (memory_of l r.entries))
@@ -315,10 +313,10 @@ module _ (l : ReadyLent) (sync : Map SyncReqStatus) (r : Ready) (b : Bodies) (fo
           (to_sync_reqs (if_none (frozen_of l r.entries) (sync_reqs3to2 sync) sync) s))))))
 
 -- the answer of a journal write: awaited, and awaited by nobody
-module _ (l : ReadyLent) (sync : Map SyncReqStatus) (r : Ready) (t : TableForm r.writes) (id : ReqId) where
+module _ (l : ReadyLent) (sync : Map SyncReqStatus) (r : Ready) (t : Table r.writes.count r.writes.ids) (id : ReqId) where
   resp_next : M.Variables.Ready (ready_of l sync (write_back_journal_resp_next r id)) ≡ M.Variables.Ready (to_outstanding_journal_writes (leave (id_set r.writes) id) (ready_of l sync r))
   unfolding write_back_journal_resp_next
-  resp_next = λ i. M.Variables.Ready (to_outstanding_journal_writes (ids_left r.writes r.writes.count (counted_form r.writes t) id i) (ready_of l sync r))
+  resp_next = λ i. M.Variables.Ready (to_outstanding_journal_writes (ids_left r.writes r.writes.count (counted_own r.writes.count r.writes.ids t) id i) (ready_of l sync r))
 
   pub journal_resp_sound : id_set r.writes id ≡ true
       → WriteBackJournalRespClauses (ready_of l sync r) (M.Variables.Ready (ready_of l sync (write_back_journal_resp_next r id))) (RespWriteJournalOp id)
@@ -327,7 +325,7 @@ module _ (l : ReadyLent) (sync : Map SyncReqStatus) (r : Ready) (t : TableForm r
   pub journal_unawaited : id_set r.writes id ≡ false → M.Variables.Ready (ready_of l sync (write_back_journal_resp_next r id)) ≡ M.Variables.Ready (ready_of l sync r)
   journal_unawaited e = resp_next ∙ (λ i. M.Variables.Ready (to_outstanding_journal_writes (leave_same (id_set r.writes) id e i) (ready_of l sync r)))
 
-pub journal_resp_complete : (l : ReadyLent) (sync : Map SyncReqStatus) (r : Ready) → TableForm r.writes → (s' : M.Variables) (dop : DiskOp)
+pub journal_resp_complete : (l : ReadyLent) (sync : Map SyncReqStatus) (r : Ready) → Table r.writes.count r.writes.ids → (s' : M.Variables) (dop : DiskOp)
     (h : WriteBackJournalRespClauses (ready_of l sync r) s' dop)
     → (id_set r.writes h.id ≡ true) × (M.Variables.Ready (ready_of l sync (write_back_journal_resp_next r h.id)) ≡ s') × (dop ≡ RespWriteJournalOp h.id)
 journal_resp_complete l sync r t s' dop h = (h.waiting, resp_next l sync r t h.id ∙ sym h.next, h.op)

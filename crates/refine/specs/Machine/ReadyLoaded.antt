@@ -1,18 +1,19 @@
 -- The record that FinishLoadingOtherPhase makes of the selected superblock, its slot and n replay entries, against 000.
-use Rattle.std.specs.Prelude.{ℕ, ◌-◌, false, ◌≡◌}
+use Rattle.std.specs.Prelude.{ℕ, false, ◌≡◌}
 use Rattle.std.proofs.Math.Option.{none}
 use Rattle.std.proofs.Math.Nat.{sub-zero}
 use Rattle.superblock.specs.declared.Superblock.{Superblock}
 use Rattle.tables.proofs.Laws.IdTables.{ids_empty}
 use Rattle.range.specs.Memory.{view, view_none}
+use Rattle.loading.specs.Which.{is_second}
 use Rattle.ready.specs.State.{loaded}
 use Rattle.source.specs.JournalCache as M
 use Rattle.source.specs.JournalCache.{LoadingOtherVariables}
 use Rattle.source.proofs.Laws.Loaded.{loaded_state}
-use Rattle.refine.specs.Machine.ReadyView.{ReadyLent, slot_of, ready_of}
+use Rattle.refine.specs.Machine.ReadyView.{ReadyLent, ready_of}
 
 -- the view of the record
-pub loaded_view : (l : ReadyLent) (s : LoadingOtherVariables) (superblock : Superblock) (which n : ℕ) → superblock ≡ s.superblock → slot_of which ≡ s.whichSuperblock
+pub loaded_view : (l : ReadyLent) (s : LoadingOtherVariables) (superblock : Superblock) (which n : ℕ) → superblock ≡ s.superblock → is_second which ≡ s.whichSuperblock
     → ready_of l s.sync_reqs (loaded superblock which n) ≡ loaded_state s (view l.rbytes l.rlens n)
 unfolding loaded
 loaded_view l s superblock which n e w =

@@ -1,11 +1,12 @@
 -- Question 2 of a machine at work: the test of the record, together with what a look at lent memory finds, says yes exactly where the view
 -- meets `Inv` and the limits and the record is in form.
-use Rattle.std.specs.Prelude.{◌+◌, ◌-◌, ◌*◌, ◌≤◌, true, ◌≡◌, refl, ◌⊎◌, length, take, drop}
+use Rattle.std.specs.Prelude.{◌+◌, ◌-◌, ◌*◌, ◌≤◌, true, ◌≡◌, refl, length, take, drop, Some}
 use Rattle.std.proofs.Common.{sym, ◌∙◌, ap, subst, inl, inr, ⊎_elim, arith}
 use Rattle.std.proofs.Math.Option.{some, some-injective}
 use Rattle.laws.specs.Choice.{ruin}
 use Rattle.laws.specs.Fold.{every}
 use Rattle.laws.specs.Sets.{Map, keys, AtMost, none_some}
+use Rattle.laws.specs.Optional.{option_of, option_same}
 use Rattle.layout.specs.declared.Geometry.{Geometry}
 use Rattle.layout.specs.Geometry.{num_journal_blocks}
 use Rattle.superblock.specs.declared.Superblock.{Superblock}
@@ -24,9 +25,10 @@ use Rattle.source.specs.JournalCache as M
 use Rattle.source.specs.JournalCache.{SyncReqStatus, CommitAdvanceLog, CommitAdvanceLocation, ReadyVariables, InvReady, InvAdvanceLog, InvAdvanceLocation, InvNewSuperblock}
 use Rattle.source.specs.Limits.{Limits}
 use Rattle.source.specs.Meets.{MachineMeets}
-use Rattle.refine.specs.Machine.ReadyView.{ReadyLent, location_of, status_of, new_of, replay_of, ready_of}
-use Rattle.refine.specs.Machine.ReadyCases.{location_seen, received_seen, seen_received, commit_new, commit_status_is}
-use Rattle.refine.specs.Machine.ReadyForm.{PendingForm, TableForm, ReadyForm, table_none, each_fit, fit_each, pending_few_is, pending_small_is, none_frozen_is, frozen_none, frozen_fits, memory_fits, fits_pending, length_replay, lengths_replay, replay_small_is}
+use Rattle.refine.specs.Disk.View.{Table}
+use Rattle.refine.specs.Machine.ReadyView.{ReadyLent, status_of, new_of, replay_of, ready_of}
+use Rattle.refine.specs.Machine.ReadyCases.{received_seen, seen_received, commit_new, commit_status_is}
+use Rattle.refine.specs.Machine.ReadyForm.{PendingForm, ReadyForm, table_none, each_fit, fit_each, pending_few_is, pending_small_is, none_frozen_is, frozen_none, frozen_fits, memory_fits, fits_pending, length_replay, lengths_replay, replay_small_is}
 
 module _ (g : Geometry) (l : ReadyLent) (sync : Map SyncReqStatus) (r : Ready) (p : PendingForm l r.entries) where
   -- the view with a given commit in flight
@@ -59,7 +61,7 @@ module _ (g : Geometry) (l : ReadyLent) (sync : Map SyncReqStatus) (r : Ready) (
       subst (InvNewSuperblock g (seen (commit.CommitAdvanceLog id k))) (some-injective k new e)
       (record {
         all_written = ids_none r.writes f.1.none_outstanding_is;
-        new_loc = ⊎_elim (λ h. inl h) (λ h. inr (ap location_of h)) f.1.new_loc;
+        new_loc = ⊎_elim (λ h. inl h) (λ h. inr (ap option_of h)) f.1.new_loc;
         commit = inl refl;
         new_wf = f.1.new_wf;
         new_counter = f.1.new_counter;
@@ -69,7 +71,7 @@ module _ (g : Geometry) (l : ReadyLent) (sync : Map SyncReqStatus) (r : Ready) (
       subst (InvNewSuperblock g (seen (commit.CommitAdvanceLocation id k))) (some-injective k new e)
       (record {
         all_written = ids_none r.writes f.1.none_outstanding_is;
-        new_loc = ⊎_elim (λ h. inl h) (λ h. inr (ap location_of h)) f.1.new_loc;
+        new_loc = ⊎_elim (λ h. inl h) (λ h. inr (ap option_of h)) f.1.new_loc;
         commit = inr refl;
         new_wf = f.1.new_wf;
         new_counter = f.1.new_counter;
@@ -85,7 +87,7 @@ module _ (g : Geometry) (l : ReadyLent) (sync : Map SyncReqStatus) (r : Ready) (
         len_written = f.extent.len_written;
         if_frozen = λ e. let k = f.if_frozen e in record { position_in = k.position_in; len_written = k.len_written; position_written = k.position_written };
         if_received = λ loc e.
-            let k = f.if_received loc (location_seen r.frozen.frozenLoc loc e) in
+            let k = f.if_received loc (option_same r.frozen.frozenLoc (Some loc) e) in
             record { loc_valid = k.loc_valid; frozen = k.frozen };
         superblock_wf = f.superblock_wf;
         if_advance_log = log_inv r.commit f.in_flight_is;
@@ -97,12 +99,12 @@ module _ (g : Geometry) (l : ReadyLent) (sync : Map SyncReqStatus) (r : Ready) (
       }
 
   -- and back: each case of the commit in flight from the clauses of the view
-  module _ (t : TableForm r.writes) where
+  module _ (t : Table r.writes.count r.writes.ids) where
     is_new_is : (c : Commit) (new : Superblock) → InvNewSuperblock g (seen c) new → IsNew g r new
     is_new_is c new k =
         record {
           none_outstanding_is = table_none r.writes t k.all_written;
-          new_loc = ⊎_elim (λ h. inl h) (λ h. inr (location_seen r.frozen.frozenLoc new.indirectionTableLoc h)) k.new_loc;
+          new_loc = ⊎_elim (λ h. inl h) (λ h. inr (option_same r.frozen.frozenLoc (Some new.indirectionTableLoc) h)) k.new_loc;
           new_wf = k.new_wf;
           new_counter = k.new_counter;
           none_frozen_is = frozen_none l r.entries p k.none_frozen_is;
@@ -201,7 +203,7 @@ module _ (g : Geometry) (L : Limits) (l : ReadyLent) (sync : Map SyncReqStatus) 
             let k = m.inv.if_frozen e in
             record { position_in = k.position_in; len_written = k.len_written; position_written = k.position_written };
         if_received = λ loc e.
-            let k = m.inv.if_received loc (ap location_of e) in
+            let k = m.inv.if_received loc (ap option_of e) in
             record { loc_valid = k.loc_valid; frozen = k.frozen };
         superblock_wf = m.inv.superblock_wf;
         in_flight_is = inv_flight g l sync r form.pending form.writes r.commit m.inv;

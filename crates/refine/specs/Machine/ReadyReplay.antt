@@ -9,7 +9,7 @@ use Rattle.laws.specs.Fold.{sum}
 use Rattle.laws.specs.Cut.{lengths}
 use Rattle.laws.specs.Sets.{Map}
 use Rattle.range.specs.Memory.{view, total, total_split, length_view, lengths_view, view_take, view_drop}
-use Rattle.memory.specs.declared.Count.{Count}
+use Rattle.range.specs.declared.Count.{Count}
 use Rattle.ready.specs.declared.Ready.{Ready}
 use Rattle.ready.specs.State.{count}
 use Rattle.ready.specs.EntrySteps.{replay_next}

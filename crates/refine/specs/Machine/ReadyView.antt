@@ -1,16 +1,13 @@
 -- The view of a machine at work: its record, with what lies in lent memory beside it, as 000's `Ready`. Frozen entries come first in pending
 -- memory; of replay memory the view begins behind what is taken. The sync requests are an argument: their table stands outside the record.
-use Rattle.std.specs.Prelude.{ℕ, ◌-◌, Bool, List, eqb, drop}
+use Rattle.std.specs.Prelude.{ℕ, ◌-◌, List, drop}
 use Rattle.std.proofs.Math.Option.{Option, none, some}
 use Rattle.laws.specs.Sets.{Map}
-use Rattle.layout.specs.declared.Location.{Location}
+use Rattle.laws.specs.Optional.{option_of}
 use Rattle.superblock.specs.declared.Superblock.{Superblock}
-use Rattle.superblock.specs.declared.MaybeId.{MaybeId}
-use Rattle.superblock.specs.declared.MaybeId.TheVariants.{Id, NoId}
 use Rattle.tables.specs.IdTable.{id_set}
 use Rattle.range.specs.Memory.{view}
-use Rattle.ready.specs.declared.MaybeLocation.{MaybeLocation}
-use Rattle.ready.specs.declared.MaybeLocation.TheVariants.{NoLocation, Received}
+use Rattle.loading.specs.Which.{is_second}
 use Rattle.ready.specs.declared.Commit.{Commit}
 use Rattle.ready.specs.declared.Commit.TheVariants as commit
 use Rattle.ready.specs.declared.Entries.{Entries}
@@ -25,22 +22,6 @@ pub record ReadyLent : Type 0 where
   pub lens : List ℕ
   pub rbytes : List ℕ
   pub rlens : List ℕ
-
-abbrev pub location_of : MaybeLocation → Option Location
-location_of NoLocation = none
-location_of (Received loc) = some loc
-
-abbrev pub id_of : MaybeId → Option ReqId
-id_of NoId = none
-id_of (Id id) = some id
-
-abbrev pub maybe_id : Option ReqId → MaybeId
-maybe_id none = NoId
-maybe_id (some id) = Id id
-
--- `which` 1 is the second slot
-abbrev pub slot_of : ℕ → Bool
-slot_of which = eqb which 1
 
 -- superblock_write, commit_status and new_superblock of the commit in flight
 abbrev pub write_of : Commit → Option ReqId
@@ -71,7 +52,7 @@ replay_of l e = view (drop e.taken.bytes l.rbytes) (drop e.taken.entries l.rlens
 abbrev pub ready_of : ReadyLent → Map SyncReqStatus → Ready → ReadyVariables
 ready_of l sync_reqs r =
     record {
-      frozenLoc = location_of r.frozen.frozenLoc;
+      frozenLoc = option_of r.frozen.frozenLoc;
       isFrozen = r.frozen.isFrozen;
       frozenJournalPosition = r.frozen.frozenJournalPosition;
       superblock_write = write_of r.commit;
@@ -81,7 +62,7 @@ ready_of l sync_reqs r =
       writtenJournalLen = r.writtenJournalLen;
       replay_journal = replay_of l r.entries;
       superblock = r.superblock;
-      whichSuperblock = slot_of r.whichSuperblock;
+      whichSuperblock = is_second r.whichSuperblock;
       commit_status = status_of r.commit;
       new_superblock = new_of r.commit;
       sync_reqs = sync_reqs;

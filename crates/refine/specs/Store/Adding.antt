@@ -1,5 +1,5 @@
 -- Advance: the entries that the caller brings join pending memory. They are there, so that the call is no nonsense.
-use Rattle.std.specs.Prelude.{ℕ, ◌≡◌}
+use Rattle.std.specs.Prelude.{ℕ, ◌≡◌, Ok}
 use Rattle.std.proofs.Math.Path.{refl}
 use Rattle.std.proofs.Common.{sym, ◌∙◌, subst}
 use Rattle.laws.specs.Choice.{and_then, and_then_left, and_then_right, unless_done}
@@ -8,8 +8,7 @@ use Rattle.superblock.specs.declared.DiskOp.{DiskOp}
 use Rattle.superblock.specs.declared.DiskOp.TheVariants as op
 use Rattle.range.specs.Memory.{view}
 use Rattle.codec.specs.Format.{format}
-use Rattle.memory.specs.Answer.{refusal_counted}
-use Rattle.memory.specs.Given.{memory, count_of, ask_added, added_asked}
+use Rattle.memory.specs.Given.{memory, count_of, added_asked}
 use Rattle.ready.specs.declared.Bodies.{Bodies}
 use Rattle.source.specs.JournalDisk as D
 use Rattle.source.specs.JournalCache.{AdvanceStep}
@@ -20,8 +19,8 @@ use Rattle.history.specs.Ledger.{Call}
 use Rattle.history.specs.Statement.{Takes, Tied, tied_add}
 use Rattle.machine.specs.Questions.{bodies_of}
 use Rattle.machine.specs.Working.{given_of, ask_advance_step, advance_machine, appended_bytes, appended_lens}
+use Rattle.machine.specs.Laws.Entries.{given_number}
 use Rattle.store.specs.declared.Store.{Store}
-use Rattle.store.specs.declared.StoreAnswer.TheVariants as answer
 use Rattle.store.specs.Store.{store}
 use Rattle.store.specs.Lent.{Lent, machine_lent, ask_store, with_pending}
 use Rattle.store.specs.Steps.{ask_both, both, add, added_lent}
@@ -53,14 +52,14 @@ module _ (g : Geometry) (l : Lent) (v : Given) (s : Store) (k : ℕ) where
   unfolding ask_advance_step
   given_there e =
       asked_entries v.brought v.sizes k
-      (added_asked (memory v.brought v.sizes k) (sym (refusal_counted (ask_added (memory v.brought v.sizes k)) (count_of (memory v.brought v.sizes k))) ∙ and_then_left _ _ (and_then_right _ _ e))).0
+      (added_asked (memory v.brought v.sizes k) (sym (given_number v.brought v.sizes k) ∙ and_then_left _ _ (and_then_right _ _ e))).0
 
   add_tied : q ≡ 0 → Tied (call_of v (step.Advance k)) (MachineStep D.NoDiskOp (Source (AdvanceStep (view v.brought v.sizes k))))
   add_tied e =
       subst (λ (x : Call). Tied x (MachineStep D.NoDiskOp (Source (AdvanceStep (view v.brought v.sizes k)))))
       (sym (entries_is v.brought v.sizes k (ledger.add (view v.brought v.sizes k)) (given_there e))) tied_add
 
-  pub add_takes : (z : SizedStore s) → ask_store g l s ≡ 0 → (o : DiskOp) → (add g s b v.brought v.sizes k).answer ≡ answer.Next o
+  pub add_takes : (z : SizedStore s) → ask_store g l s ≡ 0 → (o : DiskOp) → (add g s b v.brought v.sizes k).answer ≡ Ok o
       → Takes g format limits (seen g l s) (seen g (added_lent l s v.brought v.sizes k q b) (add g s b v.brought v.sizes k).store) (call_of v (step.Advance k))
   unfolding both ask_both
   add_takes z e o a =

@@ -1,5 +1,5 @@
 -- Calls that a store takes in every kind: sync requests, NoOp, and the landing of a superblock write, of which the machine sees nothing.
-use Rattle.std.specs.Prelude.{ℕ, ◌≡◌, refl}
+use Rattle.std.specs.Prelude.{ℕ, ◌≡◌, refl, Ok}
 use Rattle.std.proofs.Common.{sym, subst}
 use Rattle.layout.specs.declared.Geometry.{Geometry}
 use Rattle.superblock.specs.declared.DiskOp.{DiskOp}
@@ -13,12 +13,12 @@ use Rattle.source.specs.Departures.{Source, DiskInternalStep}
 use Rattle.history.specs.Ledger as ledger
 use Rattle.history.specs.Ledger.{Call}
 use Rattle.history.specs.Statement.{Tied, Takes}
+use Rattle.loading.specs.Which.{is_second}
 use Rattle.machine.specs.Sync.{ask_push_sync_req, push_sync_req_machine, ask_pop_sync_req, pop_sync_req_machine}
 use Rattle.requests.specs.Landing.{ask_land}
 use Rattle.disk.specs.Next.{land_next}
 use Rattle.requests.specs.Laws.Landing.{land_asked}
 use Rattle.store.specs.declared.Store.{Store}
-use Rattle.store.specs.declared.StoreAnswer.TheVariants as answer
 use Rattle.store.specs.declared.StoreStepped.{StoreStepped}
 use Rattle.store.specs.Store.{store}
 use Rattle.store.specs.Lent.{Lent, machine_lent, ask_store}
@@ -28,7 +28,6 @@ use Rattle.calls.specs.declared.calls.Step.TheVariants as step
 use Rattle.calls.specs.Given.{Given}
 use Rattle.refine.specs.Disk.View.{disk_of}
 use Rattle.refine.specs.Disk.SuperblockWrites.{land_clauses}
-use Rattle.refine.specs.Machine.ReadyView.{slot_of}
 use Rattle.refine.specs.Machine.MachineSync.{push_clauses, pop_clauses}
 use Rattle.refine.specs.Store.Seen.{seen, SizedStore, store_met, met_system, call_of}
 use Rattle.refine.specs.Store.Operations.{slot_same}
@@ -36,7 +35,7 @@ use Rattle.refine.specs.Store.Plain.{both_takes, named_is}
 
 module _ (g : Geometry) (l : Lent) (v : Given) (s : Store) (z : SizedStore s) (e : ask_store g l s ≡ 0) where
   -- PushSyncReq, PopSyncReq
-  pub push_takes : (id : ℕ) (o : DiskOp) → (push_sync g s id).answer ≡ answer.Next o
+  pub push_takes : (id : ℕ) (o : DiskOp) → (push_sync g s id).answer ≡ Ok o
       → Takes g format limits (seen g l s) (seen g l (push_sync g s id).store) (call_of v (step.PushSyncReq id))
   push_takes id o h =
       both_takes g l s z e (ask_push_sync_req s.machine.sync id) op.NoDiskOp (push_sync_req_machine s.machine id) (ledger.push_sync id) o h tt
@@ -47,7 +46,7 @@ module _ (g : Geometry) (l : Lent) (v : Given) (s : Store) (z : SizedStore s) (e
         tied = Tied.tied_push;
       })
 
-  pub pop_takes : (id : ℕ) (o : DiskOp) → (pop_sync g s id).answer ≡ answer.Next o
+  pub pop_takes : (id : ℕ) (o : DiskOp) → (pop_sync g s id).answer ≡ Ok o
       → Takes g format limits (seen g l s) (seen g l (pop_sync g s id).store) (call_of v (step.PopSyncReq id))
   pop_takes id o h =
       both_takes g l s z e (ask_pop_sync_req s.machine.sync id) op.NoDiskOp (pop_sync_req_machine s.machine id) (ledger.pop_sync id) o h tt
@@ -59,7 +58,7 @@ module _ (g : Geometry) (l : Lent) (v : Given) (s : Store) (z : SizedStore s) (e
       })
 
   -- NoOp
-  pub no_op_takes : (o : DiskOp) → (no_op g s).answer ≡ answer.Next o → Takes g format limits (seen g l s) (seen g l (no_op g s).store) (call_of v step.NoOp)
+  pub no_op_takes : (o : DiskOp) → (no_op g s).answer ≡ Ok o → Takes g format limits (seen g l s) (seen g l (no_op g s).store) (call_of v step.NoOp)
   no_op_takes o h =
       both_takes g l s z e 0 op.NoDiskOp s.machine ledger.no_op o h tt
       (λ m q d.
@@ -70,7 +69,7 @@ module _ (g : Geometry) (l : Lent) (v : Given) (s : Store) (z : SizedStore s) (e
       })
 
   -- a landing
-  pub land_takes : (which : ℕ) (o : DiskOp) → (land s which).answer ≡ answer.Next o
+  pub land_takes : (which : ℕ) (o : DiskOp) → (land s which).answer ≡ Ok o
       → Takes g format limits (seen g l s) (seen g l (land s which).store) (call_of v (step.Land which))
   land_takes which o h =
       let after : Store = store s.machine (land_next s.disk which) in
@@ -79,8 +78,8 @@ module _ (g : Geometry) (l : Lent) (v : Given) (s : Store) (z : SizedStore s) (e
       subst (λ (r : StoreStepped). Takes g format limits (seen g l s) (seen g l r.store) (call_of v (step.Land which)))
       (sym (asked_next (ask_land s.disk.superblockWrites which) op.NoDiskOp after s k.0))
       (record {
-        event = DiskInternalStep (D.ProcessWriteSuperblockStep (slot_of which));
-        tied = subst (λ (x : Call). Tied x (DiskInternalStep (D.ProcessWriteSuperblockStep (slot_of which)))) (sym (named_is which ledger.land w)) Tied.tied_land;
+        event = DiskInternalStep (D.ProcessWriteSuperblockStep (is_second which));
+        tied = subst (λ (x : Call). Tied x (DiskInternalStep (D.ProcessWriteSuperblockStep (is_second which)))) (sym (named_is which ledger.land w)) Tied.tied_land;
         allowed =
             record {
               meets = met_system g l s z (store_met g l s z e);

@@ -1,13 +1,12 @@
 -- Demand 2 of the store, the other way: every step that the sources and departures allow, within the limits, is taken by a call that is tied to
 -- it, and the view of the next store is its next state. For all events at once.
-use Rattle.std.specs.Prelude.{ℕ, Bool, List}
 use Rattle.layout.specs.declared.Geometry.{Geometry}
 use Rattle.codec.specs.Format.{format}
 use Rattle.source.specs.JournalDisk as D
 use Rattle.source.specs.JournalCache as M
 use Rattle.source.specs.JournalSystem as Y
 use Rattle.source.specs.Limits.{limits}
-use Rattle.source.specs.Departures.{Event, MachineStep, DiskInternalStep, CrashStep, Step⁺, Source, DamagedJournalStep, AskAgainStep, Allowed}
+use Rattle.source.specs.Departures.{Event, MachineStep, DiskInternalStep, CrashStep, Source, DamagedJournalStep, AskAgainStep, Allowed}
 use Rattle.source.specs.Within.{Within}
 use Rattle.store.specs.declared.Store.{Store}
 use Rattle.store.specs.Lent.{Lent}

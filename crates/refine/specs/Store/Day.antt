@@ -1,7 +1,7 @@
 -- Demand 3 of the code isn't empty: the example day of crate history is a day of the code. From `Store::initial` over any memory of the right
 -- lengths whose marks are 0, the code takes and refuses the day's calls as they are listed there: commits of both kinds, ranges that go round the
 -- ring, two sync requests, a damaged read, a crash with a write in flight, and a load in two pieces; and at Ready it shows the ledger.
-use Rattle.std.specs.Prelude.{ℕ, ◌*◌, Bool, true, false, ◌≡◌, refl, List, [], ◌∷◌, ◌++◌, map, length, replicate}
+use Rattle.std.specs.Prelude.{ℕ, Bool, true, false, ◌≡◌, refl, List, [], ◌∷◌, ◌++◌, map, length, replicate}
 use Rattle.std.proofs.Common.{sym, ◌∙◌, ap, subst, arith}
 use Rattle.std.proofs.Math.Option.{some}
 use Rattle.std.proofs.lemmas.List.{length-replicate}
@@ -33,9 +33,8 @@ use Rattle.refine.specs.Disk.View as disk
 use Rattle.refine.specs.Machine.MachineView.{MachineLent, syncs_of}
 use Rattle.refine.specs.Machine.MachineSync.{requests_seen}
 use Rattle.refine.specs.Machine.MachineInitial.{initial_seen}
-use Rattle.refine.specs.Store.Seen.{seen}
 use Rattle.refine.specs.Store.History.{State, Made, code_store, state_seen, ready_seen, loaded_ready}
-use Rattle.refine.specs.Store.Fresh.{fresh, fresh_form, holding, idle_seen}
+use Rattle.refine.specs.Store.Fresh.{fresh_form, holding, idle_seen}
 use Rattle.refine.specs.Store.Runs.{begun}
 use Rattle.refine.specs.Store.Within.{Few}
 use Rattle.refine.specs.Store.Follows.{Lived, AllBring, done, ◌and◌, Fits, meets_fits, lived_fits, Taken, follow_taken, Followed, follow}

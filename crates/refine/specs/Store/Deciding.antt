@@ -1,12 +1,13 @@
 -- The way back of Operations: an operation that leaves lent memory alone and that the source allows at the disk of a store, within the limits, is
 -- answered yes, and the view of the disk after it is the source's next state.
-use Rattle.std.specs.Prelude.{ℕ, ◌≤◌, Bool, ◌≡◌, refl, List, []}
+use Rattle.std.specs.Prelude.{ℕ, ◌≤◌, Bool, ◌≡◌, refl, List, [], None, Some}
+use Rattle.std.specs.declared.option.Option as code
 use Rattle.std.proofs.Common.{sym, subst}
+use Rattle.laws.specs.Optional.{option_of}
 use Rattle.layout.specs.declared.Geometry.{Geometry}
 use Rattle.superblock.specs.declared.DiskOp.{DiskOp}
 use Rattle.superblock.specs.declared.DiskOp.TheVariants as op
-use Rattle.superblock.specs.declared.SuperblockRead.{SuperblockRead}
-use Rattle.superblock.specs.declared.SuperblockRead.TheVariants as read
+use Rattle.superblock.specs.declared.Superblock.{Superblock}
 use Rattle.source.specs.JournalDisk as D
 use Rattle.source.specs.Limits.{limits, DiskCounts}
 use Rattle.source.proofs.Laws.Unique.{disk_next_one}
@@ -21,7 +22,6 @@ use Rattle.refine.specs.Disk.SuperblockWrites as SuperblockWrites
 use Rattle.refine.specs.Disk.SuperblockWrites.{request_of}
 use Rattle.refine.specs.Disk.JournalReads as JournalReads
 use Rattle.refine.specs.Disk.JournalWrites as JournalWrites
-use Rattle.refine.specs.Machine.LoadingView.{superblock_in}
 use Rattle.refine.specs.Machine.MachineView.{operation_of}
 use Rattle.refine.specs.Store.Operations.{Plain, slot_same, decided}
 
@@ -41,10 +41,10 @@ module _ (g : Geometry) (blocks marks : List ℕ) (d : Disk) (z : SizedDisk d) (
   abbrev before : D.Variables
   before = disk_of g blocks marks d
 
-  asks_read : (id which : ℕ) (x : SuperblockRead) → which ≤ 1 → D.AckReadSuperblock before s' id (bit_of which) (superblock_in x)
+  asks_read : (id which : ℕ) (x : code.Option Superblock) → which ≤ 1 → D.AckReadSuperblock before s' id (bit_of which) (option_of x)
       → ask_read_superblock_as d.slots d.superblockReads which id x ≡ 0
-  asks_read id which (read.Whole superblock) w a = SuperblockReads.clauses_read_as g d which id blocks marks w (superblock_in (read.Whole superblock)) s' a
-  asks_read id which read.Damaged w a = SuperblockReads.clauses_read_as g d which id blocks marks w (superblock_in read.Damaged) s' a
+  asks_read id which (Some superblock) w a = SuperblockReads.clauses_read_as g d which id blocks marks w (option_of (Some superblock)) s' a
+  asks_read id which None w a = SuperblockReads.clauses_read_as g d which id blocks marks w (option_of None) s' a
 
   pub asks_decision : (o : DiskOp) → Plain o → SlotIn o → D.Next g before s' (operation_of o []) → DiskCounts limits s' → ask_decision g d o ≡ 0
   asks_decision (op.ReqReadSuperblock id which) p w a c =
@@ -56,7 +56,7 @@ module _ (g : Geometry) (blocks marks : List ℕ) (d : Disk) (z : SizedDisk d) (
       (subst (λ (x : Bool). D.RecvWriteSuperblock before s' id x (request_of superblock)) (sym (slot_same which w)) a)
   asks_decision (op.ReqWriteJournal id1 id2 start count) p w a c = absurd p
   asks_decision (op.RespReadSuperblock id which superblock) p w a c =
-      asks_read id which superblock w (subst (λ (x : Bool). D.AckReadSuperblock before s' id x (superblock_in superblock)) (sym (slot_same which w)) a)
+      asks_read id which superblock w (subst (λ (x : Bool). D.AckReadSuperblock before s' id x (option_of superblock)) (sym (slot_same which w)) a)
   asks_decision (op.RespReadJournal id journal) p w a c = absurd p
   asks_decision (op.RespWriteSuperblock id which) p w a c =
       SuperblockWrites.clauses_ack_write g d which blocks marks id w s' (subst (D.AckWriteSuperblock before s' id) (sym (slot_same which w)) a)

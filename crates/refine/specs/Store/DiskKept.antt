@@ -1,5 +1,6 @@
 -- A disk operation that is taken keeps the disk's tables: counts within array and limit, and ids that differ.
-use Rattle.std.specs.Prelude.{ℕ, Bool, cond, ◌≡◌, List, eqb, take}
+use Rattle.std.specs.Prelude.{ℕ, Bool, cond, ◌≡◌, List, eqb, take, None, Some}
+use Rattle.std.specs.declared.option.Option as code
 use Rattle.std.proofs.Math.Bool.{true, false}
 use Rattle.std.proofs.Common.{sym, ◌∙◌, arith}
 use Rattle.std.proofs.Math.Path.{ap}
@@ -7,12 +8,8 @@ use Rattle.laws.specs.Choice.{ruin}
 use Rattle.laws.specs.Sets.{ids_of, AtMost, at}
 use Rattle.layout.specs.declared.Geometry.{Geometry}
 use Rattle.interval.specs.declared.JournalInterval.{JournalInterval}
-use Rattle.interval.specs.declared.MaybeInterval.{MaybeInterval}
-use Rattle.interval.specs.declared.MaybeInterval.TheVariants as part
-use Rattle.interval.specs.Answer.{maybe_interval}
+use Rattle.laws.specs.Optional.{optional}
 use Rattle.interval.specs.Interval.{interval, contiguous_journal_interval, journal_front_interval, journal_back_interval}
-use Rattle.superblock.specs.declared.MaybeId.{MaybeId}
-use Rattle.superblock.specs.declared.MaybeId.TheVariants as maybe
 use Rattle.superblock.specs.declared.DiskOp.{DiskOp}
 use Rattle.superblock.specs.declared.DiskOp.TheVariants as op
 use Rattle.tables.specs.declared.IdTable.{IdTable}
@@ -25,11 +22,9 @@ use Rattle.tables.proofs.Laws.IdTables.{ids_added_ok, ids_removed_ok}
 use Rattle.tables.proofs.Laws.RowTables.{rows_second, rows_few}
 use Rattle.tables.proofs.Laws.IntervalTables.{intervals_added_ok, intervals_removed_ok, level_intervals}
 use Rattle.source.specs.Limits.{limits, DiskCounts}
-use Rattle.requests.specs.declared.Slots.{Slots}
-use Rattle.requests.specs.declared.SuperblockReads.{SuperblockReads}
+use Rattle.requests.specs.Slots.{Slots, SuperblockReads, slot_at, put_slot}
 use Rattle.disk.specs.declared.Disk.{Disk}
 use Rattle.disk.specs.Disk.{idle_disk}
-use Rattle.requests.specs.Slots.{reads_at, put_reads}
 use Rattle.requests.specs.Receive.{read_received, added_part, write_received, rows_for, second_fits}
 use Rattle.disk.specs.Next.{recv_read_superblock_next, recv_read_journal_next, recv_write_superblock_next, recv_write_journal_next}
 use Rattle.requests.specs.Acknowledge.{read_acked, interval_left}
@@ -79,8 +74,8 @@ abbrev InTable : IdTable → Type 0
 InTable t = Counted 8 t.count t.ids
 
 module _ (r : SuperblockReads) (which : ℕ) (a : InTable r.first) (b : InTable r.second) where
-  at_kept : InTable (reads_at r which)
-  unfolding reads_at
+  at_kept : InTable (slot_at r which)
+  unfolding slot_at
   at_kept = go (eqb which 0)
     where
       go : (t : Bool) → InTable (cond {A = IdTable} t r.first r.second)
@@ -88,8 +83,8 @@ module _ (r : SuperblockReads) (which : ℕ) (a : InTable r.first) (b : InTable 
       go false = b
 
 -- an id that is in neither slot's table isn't in the one
-new_at : (r : SuperblockReads) (which id : ℕ) → id_set r.first id ≡ false → id_set r.second id ≡ false → id_set (reads_at r which) id ≡ false
-unfolding reads_at
+new_at : (r : SuperblockReads) (which id : ℕ) → id_set r.first id ≡ false → id_set r.second id ≡ false → id_set (slot_at r which) id ≡ false
+unfolding slot_at
 new_at r which id a b = go (eqb which 0)
   where
     go : (t : Bool) → id_set (cond {A = IdTable} t r.first r.second) id ≡ false
@@ -100,20 +95,20 @@ new_at r which id a b = go (eqb which 0)
 abbrev InRows : IntervalTable → Type 0
 InRows t = Counted 16 t.count t.ids
 
-part_kept : (t : IntervalTable) (id : ℕ) (p : MaybeInterval) → InRows t → Addable 16 t.count t.ids id → InRows (added_part t id p)
+part_kept : (t : IntervalTable) (id : ℕ) (p : code.Option JournalInterval) → InRows t → Addable 16 t.count t.ids id → InRows (added_part t id p)
 unfolding added_part
-part_kept t id (part.Is v) c a = intervals_added_ok t 16 c id v a
-part_kept t id part.Nothing c a = c
+part_kept t id (Some v) c a = intervals_added_ok t 16 c id v a
+part_kept t id None c a = c
 
-part_second : (t : IntervalTable) (id1 id : ℕ) (p : MaybeInterval) → has_room 16 t.count 2 t.ids ≡ true → ids_of (take t.count t.ids) id ≡ false → (id ≡ id1 → ⊥)
+part_second : (t : IntervalTable) (id1 id : ℕ) (p : code.Option JournalInterval) → has_room 16 t.count 2 t.ids ≡ true → ids_of (take t.count t.ids) id ≡ false → (id ≡ id1 → ⊥)
     → Addable 16 (added_part t id1 p).count (added_part t id1 p).ids id
 unfolding added_part added_interval
-part_second t id1 id (part.Is v) e n o = rows_second (interval_rows t) 16 id1 id v e n o
-part_second t id1 id part.Nothing e n o =
+part_second t id1 id (Some v) e n o = rows_second (interval_rows t) 16 id1 id v e n o
+part_second t id1 id None e n o =
     record { new = n; below = omega (arith, room_limit 16 t.count t.ids 2 e); free = omega (arith, room_array 16 t.count t.ids 2 e) }
 
 module _ (g : Geometry) (t : IntervalTable) (id1 : ℕ) (v : JournalInterval) (c : InRows t) where
-  first_addable : (id2 : MaybeId) → RecvWriteJournalAsked g t id1 id2 v → Addable 16 t.count t.ids id1
+  first_addable : (id2 : code.Option ℕ) → RecvWriteJournalAsked g t id1 id2 v → Addable 16 t.count t.ids id1
   first_addable id2 a =
       let room : (b : Bool) → has_room 16 t.count (rows_for b) t.ids ≡ true → Addable 16 t.count t.ids id1 = by_rows a.new1 in
       room (contiguous_journal_interval g v) a.room
@@ -126,21 +121,21 @@ module _ (g : Geometry) (t : IntervalTable) (id1 : ℕ) (v : JournalInterval) (c
           let k = ap (λ (i : ℕ). has_room 16 t.count i t.ids) (sym rows_wrapped) ∙ e in
           record { new = n; below = omega (arith, room_limit 16 t.count t.ids 2 k); free = omega (arith, room_array 16 t.count t.ids 2 k) }
 
-  write_kept : (id2 : MaybeId) → RecvWriteJournalAsked g t id1 id2 v → InRows (write_received g t id1 id2 v)
+  write_kept : (id2 : code.Option ℕ) → RecvWriteJournalAsked g t id1 id2 v → InRows (write_received g t id1 id2 v)
   unfolding write_received
-  write_kept maybe.NoId a = intervals_added_ok t 16 c id1 v (first_addable maybe.NoId a)
-  write_kept (maybe.Id id) a = by_straight (contiguous_journal_interval g v) a.room a.second
+  write_kept None a = intervals_added_ok t 16 c id1 v (first_addable None a)
+  write_kept (Some id) a = by_straight (contiguous_journal_interval g v) a.room a.second
     where
-      by_straight : (b : Bool) → has_room 16 t.count (rows_for b) t.ids ≡ true → second_fits b id1 (maybe.Id id) ≡ true
-          → InRows (added_part (added_part t id1 (maybe_interval (journal_front_interval g v.start v.len))) id (maybe_interval (journal_back_interval g v.start v.len)))
-      by_straight true e f = let h = straight_one id1 (maybe.Id id) f in ruin (cc)
+      by_straight : (b : Bool) → has_room 16 t.count (rows_for b) t.ids ≡ true → second_fits b id1 (Some id) ≡ true
+          → InRows (added_part (added_part t id1 (optional (journal_front_interval g v.start v.len))) id (optional (journal_back_interval g v.start v.len)))
+      by_straight true e f = let h = straight_one id1 (Some id) f in ruin (cc)
       by_straight false e f =
-          let w = wrapped_two id1 (maybe.Id id) f in
+          let w = wrapped_two id1 (Some id) f in
           let same : w.0 ≡ id = let h = w.1 in cc in
           let k = ap (λ (i : ℕ). has_room 16 t.count i t.ids) (sym rows_wrapped) ∙ e in
-          let front : MaybeInterval = maybe_interval (journal_front_interval g v.start v.len) in
-          part_kept (added_part t id1 front) id (maybe_interval (journal_back_interval g v.start v.len))
-          (part_kept t id1 front c (first_addable (maybe.Id id) a))
+          let front : (code.Option JournalInterval) = optional (journal_front_interval g v.start v.len) in
+          part_kept (added_part t id1 front) id (optional (journal_back_interval g v.start v.len))
+          (part_kept t id1 front c (first_addable (Some id) a))
           (part_second t id1 id front k (second_new t id a.new2) (λ h. w.2 (same ∙ h)))
 
 pub idle_tabled : (g : Geometry) (slots : Slots) → Tabled (idle_disk slots)
@@ -162,7 +157,7 @@ module _ (d : Disk) (t : Tabled d) where
       }
 
   reads_put_tabled : (which : ℕ) (x : IdTable) → InTable x
-      → Tabled (record { slots = d.slots; superblockReads = put_reads d.superblockReads which x; superblockWrites = d.superblockWrites; journalReads = d.journalReads; journalWrites = d.journalWrites })
+      → Tabled (record { slots = d.slots; superblockReads = put_slot d.superblockReads which x; superblockWrites = d.superblockWrites; journalReads = d.journalReads; journalWrites = d.journalWrites })
   reads_put_tabled which x c =
       record {
         reads1 = put_first InTable d.superblockReads which x t.reads1 t.reads2 c;
@@ -175,7 +170,7 @@ module _ (d : Disk) (t : Tabled d) where
   unfolding recv_read_superblock_next recv_read_journal_next recv_write_superblock_next recv_write_journal_next ack_read_superblock_next ack_write_superblock_next ack_write_journal_next read_received read_acked interval_left
   operation_tabled g (op.ReqReadSuperblock id which) e =
       let a = recv_read_superblock_asked d.superblockReads which id e in
-      let u : IdTable = reads_at d.superblockReads which in
+      let u : IdTable = slot_at d.superblockReads which in
       reads_put_tabled which (added_id u id)
       (ids_added_ok u 8 (at_kept d.superblockReads which t.reads1 t.reads2) id
       (addable 8 u.count u.ids id (new_at d.superblockReads which id a.new1 a.new2) a.room))
@@ -200,7 +195,7 @@ module _ (d : Disk) (t : Tabled d) where
             (recv_write_journal_asked g d.journalWrites id1 id2 (interval start count) e);
       }
   operation_tabled g (op.RespReadSuperblock id which superblock) e =
-      let u : IdTable = reads_at d.superblockReads which in
+      let u : IdTable = slot_at d.superblockReads which in
       reads_put_tabled which (removed_id u (place_of id (take u.count u.ids)))
       (ids_removed_ok u 8 (at_kept d.superblockReads which t.reads1 t.reads2) (place_of id (take u.count u.ids)))
   operation_tabled g (op.RespReadJournal id journal) e = read_left_tabled id

@@ -17,6 +17,7 @@ use Rattle.source.specs.Departures.{Step⁺, Event, MachineStep, Allowed}
 use Rattle.source.specs.Within.{Within}
 use Rattle.history.specs.Ledger.{Call}
 use Rattle.history.specs.Statement.{Tied}
+use Rattle.loading.specs.Which.{is_second}
 use Rattle.machine.specs.declared.Machine.{Machine}
 use Rattle.disk.specs.Operation.{ask_decision, operation_next}
 use Rattle.requests.specs.Laws.Pairs.{which_of, which_in, bit_which}
@@ -28,7 +29,6 @@ use Rattle.store.specs.Laws.Answers.{asked_next}
 use Rattle.calls.specs.declared.calls.Step.{Step}
 use Rattle.calls.specs.Given.{Given}
 use Rattle.calls.specs.Step.{step_answer, step_lent, ask_picture}
-use Rattle.refine.specs.Machine.ReadyView.{slot_of}
 use Rattle.refine.specs.Machine.MachineView.{machine_of, operation_of}
 use Rattle.refine.specs.Machine.MachineEntries.{brought_view, brought_given}
 use Rattle.refine.specs.Store.Seen.{seen, SizedStore, named, entries_call, call_of}
@@ -49,7 +49,7 @@ pub record Plainly (g : Geometry) (l : Lent) (v : Given) (s : Store) (x : Step) 
   pub brings : ask_picture g v.picture v.pictured x ≡ 0
 
 -- the machine's name of a slot, and the call of a slot
-pub slot_which : (w : Bool) → slot_of (which_of w) ≡ w
+pub slot_which : (w : Bool) → is_second (which_of w) ≡ w
 slot_which w = sym (slot_same (which_of w) (which_in w)) ∙ bit_which w
 
 pub tied_named : (w : Bool) (call : Bool → Call) (event : Event) → Tied (call w) event → Tied (named (which_of w) call) event

@@ -1,6 +1,6 @@
 -- What completeness of the store says: an allowed step within the limits is taken by a call that is tied to it, and the view of the next store is
 -- its next state. The hypotheses are the document's words (Allowed, Within) and what record and lent memory add to the view.
-use Rattle.std.specs.Prelude.{ℕ, ◌≡◌}
+use Rattle.std.specs.Prelude.{◌≡◌, Ok}
 use Rattle.layout.specs.declared.Geometry.{Geometry}
 use Rattle.superblock.specs.declared.DiskOp.{DiskOp}
 use Rattle.source.specs.JournalSystem as Y
@@ -9,7 +9,6 @@ use Rattle.source.specs.Meets.{SystemMeets}
 use Rattle.source.specs.Departures.{Event}
 use Rattle.history.specs.Statement.{Tied}
 use Rattle.store.specs.declared.Store.{Store}
-use Rattle.store.specs.declared.StoreAnswer.TheVariants as answer
 use Rattle.store.specs.Lent.{Lent, machine_lent, ask_store}
 use Rattle.calls.specs.declared.calls.Step.{Step}
 use Rattle.calls.specs.Given.{Given}
@@ -43,7 +42,7 @@ form_asks g l s z f m = met_store g l s z (form_met g l s z f m)
 -- a call that is taken, and the next store is seen as t
 pub record TakenTo (g : Geometry) (l : Lent) (v : Given) (s : Store) (x : Step) (t : Y.Variables) : Type 0 where
   pub op : DiskOp
-  pub taken : (stepped g l v s x).answer ≡ answer.Next op
+  pub taken : (stepped g l v s x).answer ≡ Ok op
   pub next : seen g (stepped_lent g l v s x) (stepped g l v s x).store ≡ t
 
 -- a call that takes the event to the state t

@@ -8,6 +8,7 @@ use mathlib.Core.List.{[]}
 use Rattle.layout.specs.declared.Geometry.{Geometry}
 use Rattle.codec.specs.Format.{format}
 use Rattle.loading.specs.Laws.Which.{asked_which}
+use Rattle.loading.specs.Which.{is_second}
 use Rattle.source.specs.JournalDisk as D
 use Rattle.source.specs.JournalCache as M
 use Rattle.source.specs.JournalCache.{WriteBackSuperblockRespStep, NoOpStep}
@@ -23,7 +24,6 @@ use Rattle.store.specs.declared.Store.{Store}
 use Rattle.store.specs.Lent.{Lent, machine_lent}
 use Rattle.calls.specs.declared.calls.Step.TheVariants as step
 use Rattle.calls.specs.Step.{step_answer_with, step_lent_with, ask_picture}
-use Rattle.refine.specs.Machine.ReadyView.{slot_of}
 use Rattle.refine.specs.Machine.MachineView.{operation_of}
 use Rattle.refine.specs.Machine.MachineCommitted.{superblock_resp_said, clauses_superblock_resp}
 use Rattle.refine.specs.Store.Seen.{seen, SizedStore}
@@ -41,7 +41,7 @@ module _ (g : Geometry) (l : Lent) (s : Store) (z : SizedStore s) (f : StoreForm
   superblock_written_done a w =
       let k = superblock_resp_said (seen g l s).machine t.machine dop a.step.machine in
       let id : ℕ = k.1 in
-      let b : Bool = slot_of k.0 in
+      let b : Bool = is_second k.0 in
       let d : D.AckWriteSuperblock (seen g l s).disk t.disk id b = subst (D.Next g (seen g l s).disk t.disk) k.3 a.step.disk in
       let n : ℕ = disk.slot_of s.disk.superblockWrites id in
       let same : n ≡ which_of b =
@@ -49,7 +49,7 @@ module _ (g : Geometry) (l : Lent) (s : Store) (z : SizedStore s) (f : StoreForm
       (λ e. other_idle g (seen g l s) a.meets.joined t.disk id (subst (D.AckWriteSuperblock (seen g l s).disk t.disk id) e d)) in
       let n-in : n ≤ 1 = subst (λ (x : ℕ). x ≤ 1) (sym same) (which_in b) in
       let o : dop ≡ operation_of (write_back_superblock_resp_op n id) [] =
-      k.3 ∙ ap (D.RespWriteSuperblockOp id) (sym (slot_which b) ∙ ap slot_of (sym same)) in
+      k.3 ∙ ap (D.RespWriteSuperblockOp id) (sym (slot_which b) ∙ ap is_second (sym same)) in
       both_done g l s z f t dop (Source WriteBackSuperblockRespStep) a w (step.WriteBackSuperblockResp id) nothing (ask_write_back_superblock_resp_step n)
       (write_back_superblock_resp_op n id) (write_back_superblock_resp_machine s.machine id)
       (record { answers = refl; keeps = refl; brings = refl }) tt n-in

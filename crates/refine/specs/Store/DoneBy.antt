@@ -4,6 +4,7 @@ use Rattle.std.specs.Prelude.{ℕ, ◌≡◌}
 use Rattle.std.proofs.Common.{sym, ◌∙◌, subst}
 use Rattle.std.proofs.Math.Path.{ap}
 use Rattle.laws.specs.Choice.{and_then_both, asked_yes, unless_done}
+use Rattle.refusal.specs.Refusal.{refusal}
 use Rattle.layout.specs.declared.Geometry.{Geometry}
 use Rattle.superblock.specs.declared.DiskOp.{DiskOp}
 use Rattle.source.specs.JournalDisk as D
@@ -30,7 +31,7 @@ module _ (g : Geometry) (l : Lent) (s : Store) (z : SizedStore s) (f : StoreForm
     unfolding ask_step stepped stepped_lent asked
     taken_by p a b e =
         let q : ask_step g l v s x ≡ 0 = and_then_both _ _ p (form_asks g l s z f m) in
-        let r : stepped g l v s x ≡ accepted op next = asked_yes (ask_step g l v s x) (step_answer g l v s x) (refused s (ask_step g l v s x)) q ∙ a in
+        let r : stepped g l v s x ≡ accepted op next = asked_yes (ask_step g l v s x) (step_answer g l v s x) (refused s (refusal (ask_step g l v s x))) q ∙ a in
         let k : stepped_lent g l v s x ≡ after = unless_done (ask_step g l v s x) l (step_lent g l v s x) q ∙ b in
         record { op = op; taken = ap (λ (y : StoreStepped). y.answer) r; next = (λ i. seen g (k i) (r i).store) ∙ e }
 

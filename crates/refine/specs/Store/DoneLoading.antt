@@ -1,17 +1,19 @@
 -- Completeness of a store that loads: both reads, the answer of a superblock read, the end of the superblocks' phase, and ask again.
 use Prim.Native.Nat.{ℕ}
 use Rattle.std.proofs.Math.Bool.{Bool}
-use Rattle.std.specs.Prelude.{true, ◌≡◌}
+use Rattle.std.specs.Prelude.{true, ◌≡◌, None, Some}
+use Rattle.std.specs.declared.option.Option as code
 use Rattle.std.proofs.Math.Path.{refl, sym, ap, subst}
 use Rattle.std.proofs.Common.{◌∙◌, inl}
 use mathlib.Core.List.{[]}
 use Rattle.laws.specs.Sets.{is_key}
+use Rattle.laws.specs.Optional.{option_of}
 use Rattle.layout.specs.declared.Geometry.{Geometry}
 use Rattle.superblock.specs.declared.DiskOp.TheVariants as op
-use Rattle.superblock.specs.declared.SuperblockRead.{SuperblockRead}
-use Rattle.superblock.specs.declared.SuperblockRead.TheVariants as read
+use Rattle.superblock.specs.declared.Superblock.{Superblock}
 use Rattle.codec.specs.Format.{format}
 use Rattle.loading.specs.Laws.Which.{asked_which}
+use Rattle.loading.specs.Which.{is_second}
 use Rattle.source.specs.JournalDisk as D
 use Rattle.source.specs.JournalCache as M
 use Rattle.source.specs.JournalCache.{PageInJournalReqStep, PageInSuperblockReqStep, PageInSuperblockRespStep, FinishLoadingSuperblockPhaseStep}
@@ -32,8 +34,6 @@ use Rattle.store.specs.Steps.{content_of}
 use Rattle.calls.specs.declared.calls.Step.TheVariants as step
 use Rattle.calls.specs.Step.{step_answer_with, step_lent_with, ask_picture}
 use Rattle.refine.specs.Disk.SuperblockReads.{holds_of}
-use Rattle.refine.specs.Machine.LoadingView.{superblock_in}
-use Rattle.refine.specs.Machine.ReadyView.{slot_of}
 use Rattle.refine.specs.Machine.MachineView.{operation_of}
 use Rattle.refine.specs.Machine.MachineJournal.{clauses_page_in_journal_req}
 use Rattle.refine.specs.Machine.MachineSuperblocks.{clauses_page_in_superblock_req, clauses_ask_again, clauses_finish_loading_superblock_phase}
@@ -110,14 +110,14 @@ module _ (g : Geometry) (l : Lent) (s : Store) (z : SizedStore s) (f : StoreForm
         c.0 c.2 c.1
 
     -- PageInSuperblockResp: what the slot holds is what the answer brings
-    content_is : (id : ℕ) (r : SuperblockRead) → D.AckReadSuperblock (seen g l s).disk t.disk id (bit_of n) (superblock_in r) → content_of s n (is_key (superblock_in r)) ≡ r
-    content_is id (read.Whole v) a = ap (read_from true) (holds_of g s.disk n id l.blocks l.marks v (a.whole v refl)) ∙ read_whole v
-    content_is id read.Damaged a = read_damaged (slot_at s.disk.slots n)
+    content_is : (id : ℕ) (r : code.Option Superblock) → D.AckReadSuperblock (seen g l s).disk t.disk id (bit_of n) (option_of r) → content_of s n (is_key (option_of r)) ≡ r
+    content_is id (Some v) a = ap (read_from true) (holds_of g s.disk n id l.blocks l.marks v (a.whole v refl)) ∙ read_whole v
+    content_is id None a = read_damaged (slot_at s.disk.slots n)
 
-    answer_tied : (id : ℕ) (r : SuperblockRead)
-        → Tied (ledger.superblock_read which id (is_key (superblock_in r))) (MachineStep (D.RespReadSuperblockOp id which (superblock_in r)) (Source (PageInSuperblockRespStep which)))
-    answer_tied id (read.Whole v) = Tied.tied_superblock
-    answer_tied id read.Damaged = Tied.tied_corrupt
+    answer_tied : (id : ℕ) (r : code.Option Superblock)
+        → Tied (ledger.superblock_read which id (is_key (option_of r))) (MachineStep (D.RespReadSuperblockOp id which (option_of r)) (Source (PageInSuperblockRespStep which)))
+    answer_tied id (Some v) = Tied.tied_superblock
+    answer_tied id None = Tied.tied_corrupt
 
     pub superblock_read_done : Allowed g format limits (seen g l s) t (MachineStep dop (Source (PageInSuperblockRespStep which)))
         → Within g limits t (MachineStep dop (Source (PageInSuperblockRespStep which)))
@@ -127,20 +127,20 @@ module _ (g : Geometry) (l : Lent) (s : Store) (z : SizedStore s) (f : StoreForm
         let h = subst (M.PageInSuperblockResp g machine_before t.machine dop) (sym (slot_which which)) a.step.machine in
         let k = names_page_in_superblock_resp g (machine_lent l) s.machine n t.machine dop h in
         let id : ℕ = k.0 in
-        let whole : Bool = is_key (superblock_in k.1) in
-        let x : SuperblockRead = content_of s n whole in
-        let d : D.AckReadSuperblock (seen g l s).disk t.disk id (bit_of n) (superblock_in k.1) =
-        subst (λ (b : Bool). D.AckReadSuperblock (seen g l s).disk t.disk id b (superblock_in k.1)) (slot_which which ∙ sym (bit_which which))
+        let whole : Bool = is_key (option_of k.1) in
+        let x : (code.Option Superblock) = content_of s n whole in
+        let d : D.AckReadSuperblock (seen g l s).disk t.disk id (bit_of n) (option_of k.1) =
+        subst (λ (b : Bool). D.AckReadSuperblock (seen g l s).disk t.disk id b (option_of k.1)) (slot_which which ∙ sym (bit_which which))
         (subst (D.Next g (seen g l s).disk t.disk) k.2 a.step.disk) in
         let same : x ≡ k.1 = content_is id k.1 d in
-        let o : dop ≡ operation_of (page_in_superblock_resp_op n id x) [] = k.2 ∙ ap (λ (r : SuperblockRead). operation_of (page_in_superblock_resp_op n id r) []) (sym same) in
+        let o : dop ≡ operation_of (page_in_superblock_resp_op n id x) [] = k.2 ∙ ap (λ (r : code.Option Superblock). operation_of (page_in_superblock_resp_op n id r) []) (sym same) in
         both_done g l s z f t dop (Source (PageInSuperblockRespStep which)) a w (step.PageInSuperblockResp n id whole) nothing (ask_page_in_superblock_resp_step n)
         (page_in_superblock_resp_op n id x) (page_in_superblock_resp_machine g s.machine n id x)
         (record { answers = refl; keeps = refl; brings = refl }) tt (which_in which)
         (tied_named which (λ b. ledger.superblock_read b id whole) (MachineStep dop (Source (PageInSuperblockRespStep which)))
-        (tied_op dop (Source (PageInSuperblockRespStep which)) (D.RespReadSuperblockOp id which (superblock_in k.1))
-        (k.2 ∙ ap (λ (b : Bool). D.RespReadSuperblockOp id b (superblock_in k.1)) (slot_which which)) (answer_tied id k.1)))
+        (tied_op dop (Source (PageInSuperblockRespStep which)) (D.RespReadSuperblockOp id which (option_of k.1))
+        (k.2 ∙ ap (λ (b : Bool). D.RespReadSuperblockOp id b (option_of k.1)) (slot_which which)) (answer_tied id k.1)))
         (asked_which n (which_in which))
         (clauses_page_in_superblock_resp g (machine_lent l) s.machine n id x t.machine
-        (inl (subst (λ (d : D.DiskOp). M.PageInSuperblockResp g machine_before t.machine d (slot_of n)) o h)))
+        (inl (subst (λ (d : D.DiskOp). M.PageInSuperblockResp g machine_before t.machine d (is_second n)) o h)))
         o

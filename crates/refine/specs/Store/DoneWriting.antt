@@ -1,13 +1,13 @@
 -- WriteBackJournalReq of the source is taken: its range is the one that the machine sends, and the disk receives it where the source's does.
 use Prim.Native.Nat.{ℕ}
 use Rattle.std.specs.Prelude.{◌≡◌, []}
+use Rattle.std.specs.declared.option.Option as code
 use Rattle.std.proofs.Math.Path.{refl, ap, subst}
 use Rattle.std.proofs.Common.{sym, ◌∙◌}
-use Rattle.std.proofs.Math.Option.{Option}
 use Rattle.laws.specs.Choice.{and_then, and_then_both}
+use Rattle.laws.specs.Optional.{option_of}
 use Rattle.layout.specs.declared.Geometry.{Geometry}
 use Rattle.interval.specs.declared.JournalInterval.{JournalInterval}
-use Rattle.superblock.specs.declared.MaybeId.{MaybeId}
 use Rattle.range.specs.Form.{encode}
 use Rattle.codec.specs.Codec.{JournalRange}
 use Rattle.codec.specs.Format.{format}
@@ -32,10 +32,9 @@ use Rattle.calls.specs.declared.calls.Step.TheVariants as step
 use Rattle.calls.specs.Given.{Given, given}
 use Rattle.calls.specs.Step.{step_answer_with, step_lent_with, ask_picture}
 use Rattle.refine.specs.Disk.JournalWrites as disk
-use Rattle.refine.specs.Machine.ReadyView.{id_of}
 use Rattle.refine.specs.Machine.MachineWriting as machine
 use Rattle.refine.specs.Store.Seen.{seen, SizedStore, StoreMet}
-use Rattle.refine.specs.Store.Writing.{same_id, es, range, after, next, lent_written, long, range_is, received}
+use Rattle.refine.specs.Store.Writing.{es, range, after, next, lent_written, long, range_is, received}
 use Rattle.refine.specs.Store.Done.{StoreForm, form_met, Done}
 use Rattle.refine.specs.Store.DoneBy.{done_asked}
 
@@ -51,23 +50,23 @@ module _ (g : Geometry) (l : Lent) (s : Store) where
   at = written_interval g s b
 
   -- the write as the source has it
-  abbrev asked : ℕ → MaybeId → JournalRange → D.DiskOp
-  asked id1 id2 jr = D.ReqWriteJournalOp id1 (id_of id2) (record { start = at.start; journal = jr })
+  abbrev asked : ℕ → code.Option ℕ → JournalRange → D.DiskOp
+  asked id1 id2 jr = D.ReqWriteJournalOp id1 (option_of id2) (record { start = at.start; journal = jr })
 
   -- the disk's half
-  module _ (z : SizedStore s) (met : StoreMet g l s z) (id1 : ℕ) (id2 : MaybeId) (a : ask_write_back_journal_req_step g s.machine id1 id2 b ≡ 0) (d' : D.Variables)
+  module _ (z : SizedStore s) (met : StoreMet g l s z) (id1 : ℕ) (id2 : code.Option ℕ) (a : ask_write_back_journal_req_step g s.machine id1 id2 b ≡ 0) (d' : D.Variables)
       (h : D.Next g (seen g l s).disk d' (asked id1 id2 (range g l nothing s id1 id2))) where
     received_asked : DiskCounts limits d' → ask_recv_write_journal g s.disk.journalWrites id1 id2 at ≡ 0
     received_asked few =
         new_blocks_rows g s.disk.journalWrites id1 id2 at (encode (es g l nothing s id1 id2))
         (disk.clauses_write g s.disk id1 id2 at (encode (es g l nothing s id1 id2)) l.blocks l.marks z.disk met.disk.tables (long g l nothing s id1 id2 z met a) d'
-        (subst (λ (x : Option ℕ × JournalRange). D.RecvWriteJournal g (seen g l s).disk d' id1 x.0 (record { start = at.start; journal = x.1 }))
-        (λ i. (sym (same_id id2) i, sym (range_is g l nothing s id1 id2 z met a) i)) h)
+        (subst (λ (x : JournalRange). D.RecvWriteJournal g (seen g l s).disk d' id1 (option_of id2) (record { start = at.start; journal = x }))
+        (sym (range_is g l nothing s id1 id2 z met a)) h)
         few.journal_writes_few)
 
     disk_after : ask_recv_write_journal g s.disk.journalWrites id1 id2 at ≡ 0 → (seen g (after g l nothing s id1 id2) (next g l nothing s id1 id2)).disk ≡ d'
     disk_after d =
-        recv_write_journal_one g (seen g l s).disk (seen g (after g l nothing s id1 id2) (next g l nothing s id1 id2)).disk d' id1 (id_of id2)
+        recv_write_journal_one g (seen g l s).disk (seen g (after g l nothing s id1 id2) (next g l nothing s id1 id2)).disk d' id1 (option_of id2)
         (record { start = at.start; journal = range g l nothing s id1 id2 }) (received g l nothing s id1 id2 z met a d) h
 
   pub write_done : (z : SizedStore s) → StoreForm g l s → (t : Y.Variables) (dop : D.DiskOp) (jr : JournalRange)
@@ -80,7 +79,7 @@ module _ (g : Geometry) (l : Lent) (s : Store) where
       machine.clauses_write g (machine_lent l) s.machine z.machine f.machine y.meets.machine l.blocks f.disk_lent.blocks_right.size t.machine dop jr y.step.machine
       w.machine in
       let id1 : ℕ = c.0 in
-      let id2 : MaybeId = c.1 in
+      let id2 : (code.Option ℕ) = c.1 in
       let a : ask_write_back_journal_req_step g s.machine id1 id2 b ≡ 0 = c.2 in
       let same : dop ≡ asked id1 id2 (range g l nothing s id1 id2) = c.4 ∙ ap (asked id1 id2) c.5 in
       let h : D.Next g (seen g l s).disk t.disk (asked id1 id2 (range g l nothing s id1 id2)) = subst (D.Next g (seen g l s).disk t.disk) same y.step.disk in
@@ -92,6 +91,6 @@ module _ (g : Geometry) (l : Lent) (s : Store) where
       let disk : (seen g (after g l nothing s id1 id2) (next g l nothing s id1 id2)).disk ≡ t.disk = disk_after z met id1 id2 a t.disk h d in
       done_asked g l s z f y.meets t (MachineStep dop (Source (WriteBackJournalReqStep jr))) (step.WriteBackJournalReq id1 id2) nothing (write_op g s id1 id2 b)
       (next g l nothing s id1 id2) (after g l nothing s id1 id2)
-      (subst (λ (o : D.DiskOp). Tied (ledger.write_journal id1 (id_of id2)) (MachineStep o (Source (WriteBackJournalReqStep jr)))) (sym same) tied_write)
+      (subst (λ (o : D.DiskOp). Tied (ledger.write_journal id1 (option_of id2)) (MachineStep o (Source (WriteBackJournalReqStep jr)))) (sym same) tied_write)
       refl (and_then q r) yes refl (lent_written g l nothing s id1 id2 (and_then q r) yes)
       (λ i. record { machine = machine i; disk = disk i })

@@ -1,20 +1,18 @@
 -- Two loaded machines are equal, said of the code's own records and lent memory: every field of a machine at work, tables by content, entries by
 -- bytes. That is what equality of the views says.
-use Rattle.std.specs.Prelude.{ℕ, ◌≤◌, Bool, true, false, cond, ◌≡◌, refl, List, eqb}
-use Rattle.std.proofs.Common.{sym, ◌∙◌, ap, arith, eq-eqb, ne_eqb, eqb-true}
-use Rattle.std.proofs.Math.Option.{Option, none, some, some-injective}
-use Rattle.laws.specs.Choice.{split_eq, ruin, true_false, false_true}
-use Rattle.laws.specs.Sets.{Map, Ids}
-use Rattle.superblock.specs.declared.Superblock.{Superblock}
+use Rattle.std.specs.Prelude.{ℕ, ◌≤◌, ◌≡◌, refl}
+use Rattle.std.proofs.Common.{sym, ◌∙◌, ap, arith, eq-eqb, eqb-true}
+use Rattle.std.proofs.Math.Option.{some-injective}
+use Rattle.laws.specs.Choice.{split_eq, ruin}
+use Rattle.laws.specs.Sets.{Map}
+use Rattle.laws.specs.Optional.{option_of, option_same}
 use Rattle.tables.specs.IdTable.{id_set}
+use Rattle.loading.specs.Which.{is_second}
 use Rattle.ready.specs.declared.Commit.{Commit}
 use Rattle.ready.specs.declared.Commit.TheVariants as commit
-use Rattle.ready.specs.declared.MaybeLocation.{MaybeLocation}
-use Rattle.ready.specs.declared.MaybeLocation.TheVariants.{NoLocation, Received}
 use Rattle.ready.specs.declared.Ready.{Ready}
-use Rattle.source.specs.JournalCache as M
 use Rattle.source.specs.JournalCache.{ReadyVariables, SyncReqStatus}
-use Rattle.refine.specs.Machine.ReadyView.{ReadyLent, location_of, slot_of, write_of, status_of, new_of, frozen_of, memory_of, replay_of, ready_of}
+use Rattle.refine.specs.Machine.ReadyView.{ReadyLent, write_of, status_of, new_of, frozen_of, memory_of, replay_of, ready_of}
 
 -- the machines' records with their memories and sync requests
 pub record SameReady (l : ReadyLent) (y : Map SyncReqStatus) (r : Ready) (k : ReadyLent) (x : Map SyncReqStatus) (q : Ready) : Type 0 where
@@ -28,12 +26,6 @@ pub record SameReady (l : ReadyLent) (y : Map SyncReqStatus) (r : Ready) (k : Re
   pub in_memory_journal : memory_of l r.entries ≡ memory_of k q.entries
   pub replay_journal : replay_of l r.entries ≡ replay_of k q.entries
   pub sync_reqs : y ≡ x
-
-same_location_is : (a b : MaybeLocation) → location_of a ≡ location_of b → a ≡ b
-same_location_is NoLocation NoLocation e = refl
-same_location_is NoLocation (Received loc) e = ruin (cc)
-same_location_is (Received loc) NoLocation e = ruin (cc)
-same_location_is (Received loc) (Received other) e = ap Received (some-injective loc other e)
 
 same_commit : (a b : Commit) → write_of a ≡ write_of b → status_of a ≡ status_of b → new_of a ≡ new_of b → a ≡ b
 same_commit commit.CommitNone commit.CommitNone w t n = refl
@@ -49,7 +41,7 @@ same_commit (commit.CommitAdvanceLocation id new) (commit.CommitAdvanceLocation 
     λ j. commit.CommitAdvanceLocation (some-injective id i w j) (some-injective new m n j)
 
 -- of numbers that question 2 lets through the slot is the number
-same_slot : (a b : ℕ) → a ≤ 1 → b ≤ 1 → slot_of a ≡ slot_of b → a ≡ b
+same_slot : (a b : ℕ) → a ≤ 1 → b ≤ 1 → is_second a ≡ is_second b → a ≡ b
 same_slot a b ha hb e =
     split_eq a 1
     (λ h. h ∙ sym (eqb-true b 1 (sym e ∙ eq-eqb a 1 h)))
@@ -60,7 +52,7 @@ module _ (l : ReadyLent) (y : Map SyncReqStatus) (r : Ready) (k : ReadyLent) (x 
   same_seen s =
       λ i.
       record {
-        frozenLoc = location_of (s.frozen i).frozenLoc;
+        frozenLoc = option_of (s.frozen i).frozenLoc;
         isFrozen = (s.frozen i).isFrozen;
         frozenJournalPosition = (s.frozen i).frozenJournalPosition;
         superblock_write = write_of (s.commit i);
@@ -70,7 +62,7 @@ module _ (l : ReadyLent) (y : Map SyncReqStatus) (r : Ready) (k : ReadyLent) (x 
         writtenJournalLen = s.writtenJournalLen i;
         replay_journal = s.replay_journal i;
         superblock = s.superblock i;
-        whichSuperblock = slot_of (s.whichSuperblock i);
+        whichSuperblock = is_second (s.whichSuperblock i);
         commit_status = status_of (s.commit i);
         new_superblock = new_of (s.commit i);
         sync_reqs = s.sync_reqs i;
@@ -78,7 +70,7 @@ module _ (l : ReadyLent) (y : Map SyncReqStatus) (r : Ready) (k : ReadyLent) (x 
 
   pub seen_same : r.whichSuperblock ≤ 1 → q.whichSuperblock ≤ 1 → ready_of l y r ≡ ready_of k x q → SameReady l y r k x q
   seen_same a b e =
-      let loc = same_location_is r.frozen.frozenLoc q.frozen.frozenLoc (ap (λ (v : ReadyVariables). v.frozenLoc) e) in
+      let loc = option_same r.frozen.frozenLoc q.frozen.frozenLoc (ap (λ (v : ReadyVariables). v.frozenLoc) e) in
       record {
         superblock = ap (λ (v : ReadyVariables). v.superblock) e;
         whichSuperblock = same_slot r.whichSuperblock q.whichSuperblock a b (ap (λ (v : ReadyVariables). v.whichSuperblock) e);

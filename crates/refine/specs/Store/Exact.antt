@@ -1,12 +1,12 @@
 -- Demand 2 of the store, call by call: a call is taken wherever the sources and departures allow, within the limits, an event that it can stand for,
 -- whatever else it brings along; so a call that is refused is allowed nothing. With `store_takes` it is taken exactly there.
-use Rattle.std.specs.Prelude.{ℕ, suc, zero, ◌≤◌, ◌<◌, Bool, true, false, cond, ◌⊎◌, ◌≡◌, List, leb, length}
+use Rattle.std.specs.Prelude.{ℕ, suc, zero, ◌<◌, Bool, true, false, cond, ◌⊎◌, ◌≡◌, List, leb, length, None, Some, Err}
 use Rattle.std.proofs.Common.{inl, inr, ⊎_elim, sym, ◌∙◌, ap, subst, arith, leb-true}
 use Rattle.std.proofs.Math.Path.{refl}
 use Rattle.std.proofs.lemmas.Bool.{lt-leb}
 use Rattle.laws.specs.Choice.{also, also_left, also_right}
+use Rattle.refusal.specs.declared.Refusal.{Refusal}
 use Rattle.layout.specs.declared.Geometry.{Geometry}
-use Rattle.superblock.specs.declared.MaybeId.TheVariants.{Id, NoId}
 use Rattle.range.specs.Memory.{view, total, length_view}
 use Rattle.codec.specs.Codec.{JournalEntry}
 use Rattle.codec.specs.Format.{format}
@@ -24,9 +24,8 @@ use Rattle.history.specs.Ledger.{Call}
 use Rattle.history.specs.Statement.{Tied, tied_add, tied_replay}
 use Rattle.history.proofs.Calls.Called.{called_once, nonsense_refused}
 use Rattle.requests.specs.Laws.Pairs.{which_of}
+use Rattle.loading.specs.Which.{is_second}
 use Rattle.store.specs.declared.Store.{Store}
-use Rattle.store.specs.declared.StoreAnswer.{StoreAnswer}
-use Rattle.store.specs.declared.StoreAnswer.TheVariants as answer
 use Rattle.store.specs.Whole.{asked}
 use Rattle.store.specs.Lent.{Lent}
 use Rattle.calls.specs.declared.calls.Step.{Step}
@@ -34,7 +33,6 @@ use Rattle.calls.specs.declared.calls.Step.TheVariants as step
 use Rattle.calls.specs.Given.{Given}
 use Rattle.calls.specs.Step.{step_answer_with, step_lent_with, ask_picture, ask_step, stepped, stepped_lent}
 use Rattle.refine.specs.Machine.ReadyForm as form
-use Rattle.refine.specs.Machine.ReadyView.{slot_of}
 use Rattle.refine.specs.Store.Seen.{seen, SizedStore, named, entries_call, call_of}
 use Rattle.refine.specs.Store.Plain.{entries_is}
 use Rattle.refine.specs.Store.InPlace.{own_picture, own_crash, own_crash_lent}
@@ -74,7 +72,7 @@ brings step.CrashInPlace = true
 -- The call tells its step. Only the two crashes are heard alike.
 
 no_sense : (which : ℕ) (call : Bool → Call) → 1 < which → named which call ≡ ledger.nonsense
-no_sense which call h = ap (λ (b : Bool). cond b (call (slot_of which)) ledger.nonsense) (lt-leb which 1 h)
+no_sense which call h = ap (λ (b : Bool). cond b (call (is_second which)) ledger.nonsense) (lt-leb which 1 h)
 
 named_tells : (which : ℕ) (call : Bool → Call) (back : ℕ → Step) → ((w : Bool) → (made (call w)).step ≡ back (which_of w)) → (named which call ≡ ledger.nonsense → ⊥)
     → (made (named which call)).step ≡ back which
@@ -97,8 +95,8 @@ entries_tell brought sizes k call back f n =
     ap (λ (x : Call). (made x).step) (entries_is brought sizes k (call (view brought sizes k)) h) ∙ f (view brought sizes k) ∙ ap back (length_view brought sizes k h.there)
 
 tells : (v : Given) (x : Step) → (call_of v x ≡ ledger.nonsense → ⊥) → ((made (call_of v x)).step ≡ x) ⊎ (x ≡ step.Crash)
-tells v (step.WriteBackJournalReq id1 NoId) n = inl refl
-tells v (step.WriteBackJournalReq id1 (Id id2)) n = inl refl
+tells v (step.WriteBackJournalReq id1 None) n = inl refl
+tells v (step.WriteBackJournalReq id1 (Some id2)) n = inl refl
 tells v (step.WriteBackJournalResp id) n = inl refl
 tells v (step.AdvanceLog id) n = inl refl
 tells v (step.AdvanceLocation id) n = inl refl
@@ -241,5 +239,5 @@ module _ (g : Geometry) (l : Lent) (v : Given) (s : Store) (z : SizedStore s) (f
       (crash_at (own_picture l v) (asked_journal g l.blocks l.marks own.blocks_right own.marks_right) (p.own refl) a)
 
   -- a call that is refused is allowed nothing within the limits
-  pub refused_unallowed : (x : Step) (q : ℕ) → (stepped g l v s x).answer ≡ answer.Refused q → Tied (call_of v x) event → Pictured g l v x event → Fit → ⊥
+  pub refused_unallowed : (x : Step) (q : Refusal) → (stepped g l v s x).answer ≡ Err q → Tied (call_of v x) event → Pictured g l v x event → Fit → ⊥
   refused_unallowed x q r h p a = absurd (subst (λ (b : Bool). cond b (Unit {0}) ⊥) (sym (ap is_taken (call_complete x h p a).taken) ∙ ap is_taken r) tt)

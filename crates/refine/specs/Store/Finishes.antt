@@ -1,12 +1,14 @@
 -- Request S-4 of the code: a store that loads comes up. From any state that its own calls, taken or refused, have led to from `Init`, the step that the
 -- driver names is taken, and following it leads to Ready, in at most twelve steps; and so it does with sync requests made between.
 use Prim.Native.Nat.{ℕ, zero, suc, ◌+◌, ◌≤◌}
-use Rattle.std.specs.Prelude.{Bool, false, ◌≡◌, refl, List, [], ◌∷◌, ◌++◌, map}
+use Rattle.std.specs.Prelude.{Bool, false, ◌≡◌, refl, List, [], ◌∷◌, ◌++◌, map, Ok, Err, Result}
 use Rattle.std.proofs.Math.Bool.{true}
 use Rattle.std.proofs.Common.{sym, ◌∙◌, subst, arith}
 use Rattle.std.proofs.Math.Path.{ap}
 use Rattle.laws.specs.Choice.{true_false, false_true, asked_yes, ruin}
 use Rattle.laws.specs.Sets.{same_value}
+use Rattle.refusal.specs.declared.Refusal.{Refusal}
+use Rattle.refusal.specs.declared.Refusal.TheVariants as no
 use Rattle.layout.specs.declared.Geometry.{Geometry}
 use Rattle.layout.specs.declared.Location.{Location}
 use Rattle.codec.specs.Format.{format}
@@ -30,8 +32,6 @@ use Rattle.calls.specs.declared.calls.Step.{Step}
 use Rattle.calls.specs.declared.calls.Step.TheVariants as step
 use Rattle.calls.specs.Given.{Given}
 use Rattle.calls.specs.Step.{stepped, stepped_lent}
-use Rattle.driver.specs.declared.Drive.{Drive}
-use Rattle.driver.specs.declared.Drive.TheVariants as drive
 use Rattle.driver.specs.Driver.{loading_step, next_step}
 use Rattle.driver.specs.Ids.{least_new}
 use Rattle.refine.specs.Machine.MachineKinds.{of_kind}
@@ -59,13 +59,13 @@ pub record FromInit (g : Geometry) (s : State) : Type 0 where
   pub ran : Ran (code_store g) first calls answers s
 
 -- the driver's answer
-abbrev pub driver_says : Geometry → State → Drive
+abbrev pub driver_says : Geometry → State → Result Step Refusal
 driver_says g s = next_step g s.lent s.store
 
 -- n steps, each the one that the driver names, each taken, up to Ready, where it names none; v is whatever is handed with them
 pub data DrivenTo (g : Geometry) (v : Given) : State → ℕ → State → Type 0 where
-  up : {t : State} → t.store.machine.kind ≡ kind.Ready → driver_says g t ≡ drive.Refused 3 → DrivenTo g v t 0 t
-  on : {s u t : State} {n : ℕ} {x : Step} → driver_says g s ≡ drive.Take x → Promise g s (makes v x) true u → DrivenTo g v u n t → DrivenTo g v s (suc n) t
+  up : {t : State} → t.store.machine.kind ≡ kind.Ready → driver_says g t ≡ Err no.Kind → DrivenTo g v t 0 t
+  on : {s u t : State} {n : ℕ} {x : Step} → driver_says g s ≡ Ok x → Promise g s (makes v x) true u → DrivenTo g v u n t → DrivenTo g v s (suc n) t
 
 pub record Finishes (g : Geometry) (v : Given) (s : State) : Type 0 where
   pub steps : ℕ
@@ -83,7 +83,7 @@ pub data IsSync : Step → Type 0 where
 pub data Led (g : Geometry) (s : State) : ℕ → State → Type 0 where
   here : Led g s 0 s
   sync : {n : ℕ} {t u : State} {x : Made} {b : Bool} → Led g s n t → IsSync x.step → Promise g t x b u → Led g s n u
-  named : {n : ℕ} {t u : State} {x : Made} {b : Bool} → Led g s n t → driver_says g t ≡ drive.Take x.step → Promise g t x b u → Led g s (suc n) u
+  named : {n : ℕ} {t u : State} {x : Made} {b : Bool} → Led g s n t → driver_says g t ≡ Ok x.step → Promise g t x b u → Led g s (suc n) u
 
 -- One step
 
@@ -100,7 +100,7 @@ module _ (g : Geometry) (p : ℕ) where
   -- the step that the driver names is taken, and one less is left
   record Taken (s : State) (v : Given) : Type 0 where
     step : Step
-    named : driver_says g s ≡ drive.Take step
+    named : driver_says g s ≡ Ok step
     next : State
     promise : Promise g s (makes v step) true next
     ledger : Ledger
@@ -211,14 +211,14 @@ module _ (g : Geometry) (p : ℕ) where
       pop_left g format limits (state_seen g t) (state_seen g u) id ((code_store g).sound t (makes v (step.PopSyncReq id)) u h)
 
   -- a named step is taken, and one less is left
-  names_loads : (t : State) (l : Ledger) → StateReached g p t l → (x : Step) → driver_says g t ≡ drive.Take x → loads t.store.machine.kind ≡ true
+  names_loads : (t : State) (l : Ledger) → StateReached g p t l → (x : Step) → driver_says g t ≡ Ok x → loads t.store.machine.kind ≡ true
   names_loads t l r x e = by (loads t.store.machine.kind) refl
     where
       by : (b : Bool) → loads t.store.machine.kind ≡ b → loads t.store.machine.kind ≡ true
       by true k = k
-      by false k = let z : drive.Take x ≡ drive.Refused 3 = sym e ∙ says t l r ∙ none_named g t.store.machine t.store.disk k in ruin (cc)
+      by false k = let z : Ok x ≡ Err no.Kind = sym e ∙ says t l r ∙ none_named g t.store.machine t.store.disk k in ruin (cc)
 
-  named_left : (t u : State) (x : Step) (v : Given) (b : Bool) (l : Ledger) → StateReached g p t l → driver_says g t ≡ drive.Take x → Promise g t (makes v x) b u
+  named_left : (t u : State) (x : Step) (v : Given) (b : Bool) (l : Ledger) → StateReached g p t l → driver_says g t ≡ Ok x → Promise g t (makes v x) b u
       → (b ≡ true) × (left g (state_seen g t) ≡ suc (left g (state_seen g u)))
   named_left t u x v b l r e h = (h.taken_is ∙ sym q.taken_is, a.one_less ∙ ap (λ (y : Y.Variables). suc (left g y)) (sym same))
     where
@@ -303,7 +303,7 @@ module _ (g : Geometry) (s : State) (from : FromInit g s) where
       omega (arith, c, m)
 
   -- none of them is refused, whatever is handed with it,
-  pub led_taken : {n : ℕ} {t u : State} {x : Made} {b : Bool} → Led g s n t → driver_says g t ≡ drive.Take x.step → Promise g t x b u → b ≡ true
+  pub led_taken : {n : ℕ} {t u : State} {x : Made} {b : Bool} → Led g s n t → driver_says g t ≡ Ok x.step → Promise g t x b u → b ≡ true
   led_taken {t = t} {u = u} {x = x} {b = b} k e h =
       let r = from_reached g s from in
       let c = led_coming g r.0 s r.1 r.2 k in

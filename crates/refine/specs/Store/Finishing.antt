@@ -1,5 +1,5 @@
 -- FinishLoadingOtherPhase: the entries of the loaded blocks lie in replay memory then, and the disk stays.
-use Rattle.std.specs.Prelude.{ℕ, ◌≡◌}
+use Rattle.std.specs.Prelude.{ℕ, ◌≡◌, Ok}
 use Rattle.std.proofs.Math.Path.{refl}
 use Rattle.laws.specs.Choice.{and_then, and_then_left, unless_done}
 use Rattle.layout.specs.declared.Geometry.{Geometry}
@@ -13,7 +13,6 @@ use Rattle.source.specs.Departures.{Source}
 use Rattle.history.specs.Statement.{Takes, tied_finish_other}
 use Rattle.machine.specs.Loading.{ask_loaded, finish_loading_other_phase_machine, loaded_replay_bytes, loaded_replay_lens}
 use Rattle.store.specs.declared.Store.{Store}
-use Rattle.store.specs.declared.StoreAnswer.TheVariants as answer
 use Rattle.store.specs.Store.{store}
 use Rattle.store.specs.Lent.{Lent, machine_lent, ask_store, with_replay}
 use Rattle.store.specs.Steps.{ask_both, both, finish_other, finished_lent}
@@ -34,7 +33,7 @@ module _ (g : Geometry) (l : Lent) (v : Given) (s : Store) where
   lent_finished : q ≡ 0 → finished_lent l s q ≡ after
   lent_finished e = λ i. with_replay l (unless_done q l.rbytes after.rbytes e i) (unless_done q l.rlens after.rlens e i)
 
-  pub finish_other_takes : (z : SizedStore s) → ask_store g l s ≡ 0 → (o : DiskOp) → (finish_other g s l.pieces l.rbytes l.rlens).answer ≡ answer.Next o
+  pub finish_other_takes : (z : SizedStore s) → ask_store g l s ≡ 0 → (o : DiskOp) → (finish_other g s l.pieces l.rbytes l.rlens).answer ≡ Ok o
       → Takes g format limits (seen g l s) (seen g (finished_lent l s q) (finish_other g s l.pieces l.rbytes l.rlens).store) (call_of v step.FinishLoadingOtherPhase)
   unfolding both ask_both
   finish_other_takes z e o a =

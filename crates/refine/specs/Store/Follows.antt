@@ -1,12 +1,13 @@
 -- Whole histories the other way: a history of the relations, in which a refused call is one that is not allowed, is a history of the code. So the
 -- code's store isn't one that refuses, and what is shown to be there over the relations is there of the code.
-use Rattle.std.specs.Prelude.{ℕ, Bool, true, false, ◌≡◌, refl, List, [], ◌∷◌, map, length}
+use Rattle.std.specs.Prelude.{ℕ, Bool, true, false, ◌≡◌, refl, List, [], ◌∷◌, map, length, None, Some, Ok, Err, Result}
 use Rattle.std.proofs.Common.{sym, ◌∙◌, ap, subst}
 use Rattle.std.proofs.Math.Option.{none, some}
 use Rattle.laws.specs.Cut.{flat, lengths}
+use Rattle.refusal.specs.declared.Refusal.{Refusal}
 use Rattle.layout.specs.declared.Geometry.{Geometry}
 use Rattle.layout.specs.Geometry.{num_journal_blocks}
-use Rattle.superblock.specs.declared.MaybeId.TheVariants.{Id, NoId}
+use Rattle.superblock.specs.declared.DiskOp.{DiskOp}
 use Rattle.range.specs.Memory.{view}
 use Rattle.codec.specs.Codec.{JournalEntry, Sized}
 use Rattle.codec.specs.Format.{format}
@@ -18,8 +19,6 @@ use Rattle.history.specs.Ledger.{Call}
 use Rattle.history.specs.Statement.{Takes, Ran}
 use Rattle.history.proofs.Calls.Called.{called_once}
 use Rattle.requests.specs.Laws.Pairs.{which_of}
-use Rattle.store.specs.declared.StoreAnswer.{StoreAnswer}
-use Rattle.store.specs.declared.StoreAnswer.TheVariants as answer
 use Rattle.calls.specs.declared.calls.Step.{Step}
 use Rattle.calls.specs.declared.calls.Step.TheVariants as step
 use Rattle.calls.specs.Given.{given}
@@ -78,8 +77,8 @@ bringing es x = record { step = x (length es); given = given (flat es) (lengths 
 
 -- a call of the ledger's, as the code's
 abbrev pub made : Call → Made
-made (ledger.write_journal id1 none) = plain (step.WriteBackJournalReq id1 NoId)
-made (ledger.write_journal id1 (some id2)) = plain (step.WriteBackJournalReq id1 (Id id2))
+made (ledger.write_journal id1 none) = plain (step.WriteBackJournalReq id1 None)
+made (ledger.write_journal id1 (some id2)) = plain (step.WriteBackJournalReq id1 (Some id2))
 made (ledger.journal_written id) = plain (step.WriteBackJournalResp id)
 made (ledger.commit_log id) = plain (step.AdvanceLog id)
 made (ledger.commit_location id) = plain (step.AdvanceLocation id)
@@ -171,10 +170,10 @@ module _ (g : Geometry) where
   pub follow_refused : (s : State) (x : Call) → ((u : Y.Variables) → Takes g format limits (state_seen g s) u x → ⊥) → Promise g s (made x) false s
   follow_refused s x n = by (stepped g s.lent (made x).given s.store (made x).step).answer refl
     where
-      by : (a : StoreAnswer) → (stepped g s.lent (made x).given s.store (made x).step).answer ≡ a → Promise g s (made x) false s
-      by (answer.Next o) e =
+      by : (a : Result DiskOp Refusal) → (stepped g s.lent (made x).given s.store (made x).step).answer ≡ a → Promise g s (made x) false s
+      by (Ok o) e =
           absurd (n _ (subst (Takes g format limits (state_seen g s) _) (made_heard x) (store_takes g s.lent (made x).given s.store s.sized (made x).step o e)))
-      by (answer.Refused q) e =
+      by (Err q) e =
           let k = store_refused g s.lent (made x).given s.store (made x).step q e in
           record { store_is = sym k.0; lent_is = sym k.1; taken_is = ap is_taken (sym e) }
 

@@ -1,12 +1,11 @@
 -- The store that `Init` gives: lent memory of its lengths, and two well-formed slots. Questions 1 and 2 are answered yes.
-use Rattle.std.specs.Prelude.{ℕ, ◌≡◌, refl, List}
+use Rattle.std.specs.Prelude.{ℕ, ◌≡◌, refl, List, Some}
 use Rattle.std.proofs.Common.{sym, ◌∙◌, ap}
 use Rattle.laws.specs.Sets.{Map, keys, no_keys, empty_ids, both, none_some}
 use Rattle.layout.specs.declared.Geometry.{Geometry}
 use Rattle.layout.specs.declared.Location.{Location}
 use Rattle.interval.specs.declared.JournalInterval.{JournalInterval}
 use Rattle.superblock.specs.declared.Superblock.{Superblock}
-use Rattle.superblock.specs.declared.MaybeSuperblock.TheVariants as slot
 use Rattle.superblock.specs.Laws.{WFSuperblock}
 use Rattle.superblock.specs.Superblock.{select_superblock}
 use Rattle.tables.proofs.Laws.IdTables.{ids_empty}
@@ -18,7 +17,7 @@ use Rattle.source.specs.Limits.{limits}
 use Rattle.source.specs.Meets.{Joined, DiskMeets, SystemMeets, awaited_superblock_reads, awaited_journal_reads, awaited_superblock_writes, awaited_journal_writes}
 use Rattle.source.proofs.Laws.Initial.{initial_meets}
 use Rattle.machine.specs.Machine.{initial_machine}
-use Rattle.requests.specs.declared.Slots.{Slots}
+use Rattle.requests.specs.Slots.{Slots}
 use Rattle.disk.specs.Disk.{idle_disk}
 use Rattle.store.specs.declared.Store.{Store}
 use Rattle.store.specs.Store.{store}
@@ -85,7 +84,7 @@ module _ (g : Geometry) (l : Lent) (slots : Slots) where
 
 -- two slots that hold well-formed superblocks
 abbrev pub holding : Superblock → Superblock → Slots
-holding a b = record { first = slot.Holds a; second = slot.Holds b }
+holding a b = record { first = Some a; second = Some b }
 
 -- `Init` passes
 pub fresh_asks : (g : Geometry) (l : Lent) (a b : Superblock) → MachineLent g (machine_lent l) → disk.Lent g l.blocks l.marks → WFSuperblock g a → WFSuperblock g b

@@ -1,8 +1,9 @@
 -- Demand 3 of the code: the store of crate store, by the definitions that its promises cite, as one of history's stores. Lent memory is part of the
 -- state; a call is a step with what is given beside it; every call gets state and memory as the last one left them.
-use Rattle.std.specs.Prelude.{ℕ, ◌≤◌, Bool, true, false, ◌↔◌, ◌≡◌, refl, List, [], ◌∷◌, map}
+use Rattle.std.specs.Prelude.{◌≤◌, Bool, true, false, ◌↔◌, ◌≡◌, refl, List, [], ◌∷◌, map, Ok, Err, Result}
 use Rattle.std.proofs.Common.{sym, ◌∙◌, ap, subst}
 use Rattle.laws.specs.Choice.{ruin}
+use Rattle.refusal.specs.declared.Refusal.{Refusal}
 use Rattle.layout.specs.declared.Geometry.{Geometry}
 use Rattle.layout.specs.declared.Location.{Location}
 use Rattle.superblock.specs.declared.DiskOp.{DiskOp}
@@ -21,8 +22,6 @@ use Rattle.machine.specs.declared.Kind.{Kind}
 use Rattle.machine.specs.declared.Kind.TheVariants as kind
 use Rattle.machine.specs.Machine.{by_kind}
 use Rattle.store.specs.declared.Store.{Store}
-use Rattle.store.specs.declared.StoreAnswer.{StoreAnswer}
-use Rattle.store.specs.declared.StoreAnswer.TheVariants as answer
 use Rattle.store.specs.Lent.{Lent, machine_lent}
 use Rattle.calls.specs.declared.calls.Step.{Step}
 use Rattle.calls.specs.Given.{Given}
@@ -50,9 +49,9 @@ pub record Made : Type 0 where
 abbrev pub makes : Given → Step → Made
 makes v x = record { step = x; given = v }
 
-abbrev pub is_taken : StoreAnswer → Bool
-is_taken (answer.Next op) = true
-is_taken (answer.Refused q) = false
+abbrev pub is_taken : Result DiskOp Refusal → Bool
+is_taken (Ok op) = true
+is_taken (Err q) = false
 
 -- what the code's promises say of a call: the next store, all lent memory, and whether it was taken
 pub record Promise (g : Geometry) (s : State) (x : Made) (taken : Bool) (t : State) : Type 0 where
@@ -63,13 +62,13 @@ pub record Promise (g : Geometry) (s : State) (x : Made) (taken : Bool) (t : Sta
 abbrev pub state_seen : Geometry → State → Y.Variables
 state_seen g s = seen g s.lent s.store
 
-pub taken_next : (a : StoreAnswer) → true ≡ is_taken a → (op : DiskOp) × (a ≡ answer.Next op)
-taken_next (answer.Next op) e = (op, refl)
-taken_next (answer.Refused q) e = ruin (cc)
+pub taken_next : (a : Result DiskOp Refusal) → true ≡ is_taken a → (op : DiskOp) × (a ≡ Ok op)
+taken_next (Ok op) e = (op, refl)
+taken_next (Err q) e = ruin (cc)
 
-pub refused_number : (a : StoreAnswer) → false ≡ is_taken a → (n : ℕ) × (a ≡ answer.Refused n)
-refused_number (answer.Next op) e = ruin (cc)
-refused_number (answer.Refused q) e = (q, refl)
+pub refused_number : (a : Result DiskOp Refusal) → false ≡ is_taken a → (n : Refusal) × (a ≡ Err n)
+refused_number (Ok op) e = ruin (cc)
+refused_number (Err q) e = (q, refl)
 
 -- the code's store as a store of the history
 abbrev pub code_store : (g : Geometry) → history.Store g format limits

@@ -1,18 +1,17 @@
 -- The joined test says yes exactly where the view of machine and disk is `Joined`: what the machine awaits is, in the disk's form, the source's,
 -- kind by kind; the rest is the disk's alone.
 use Prim.Native.Nat.{ℕ, zero, suc, ◌≤◌}
-use Rattle.std.specs.Prelude.{true, not, cond, ◌≡◌, List, eqb}
+use Rattle.std.specs.Prelude.{true, not, cond, ◌≡◌, List, eqb, None, Some}
+use Rattle.std.specs.declared.option.Option as code
 use Rattle.std.proofs.Math.Path.{refl, sym, ap}
 use Rattle.std.proofs.Common.{◌∙◌, arith}
 use Rattle.std.proofs.Math.Option.{Option, none, some, some-injective}
 use Rattle.laws.specs.Choice.{also_left, also_right, also_both, false_true, ruin}
 use Rattle.laws.specs.Sets.{Map, no_keys, ids_of, Two, both, put, each_of}
+use Rattle.laws.specs.Optional.{optional, option_of, option_same}
 use Rattle.layout.specs.declared.Geometry.{Geometry}
 use Rattle.interval.specs.declared.JournalInterval.{JournalInterval}
-use Rattle.interval.specs.Answer.{maybe_interval}
 use Rattle.superblock.specs.declared.Superblock.{Superblock}
-use Rattle.superblock.specs.declared.MaybeSuperblock.{MaybeSuperblock}
-use Rattle.superblock.specs.declared.MaybeSuperblock.TheVariants as slot
 use Rattle.superblock.specs.Superblock.{journal_front_interval_of_superblock, journal_back_interval_of_superblock}
 use Rattle.superblock.specs.Laws.{WFSuperblock, superblock_facts, facts_superblock}
 use Rattle.tables.specs.Rows.{Counted}
@@ -24,6 +23,7 @@ use Rattle.loading.specs.declared.SlotRead.TheVariants as slot_read
 use Rattle.loading.specs.declared.Piece.{Piece}
 use Rattle.loading.specs.declared.Piece.TheVariants as piece
 use Rattle.loading.specs.Other.{front_of}
+use Rattle.loading.specs.Which.{is_second}
 use Rattle.ready.specs.declared.Commit.{Commit}
 use Rattle.ready.specs.declared.Commit.TheVariants as commit
 use Rattle.source.specs.JournalDisk.{ReqWriteSuperblockId}
@@ -32,22 +32,20 @@ use Rattle.source.specs.Meets.{one_id, bind_read, new_write, awaited_superblock_
 use Rattle.machine.specs.declared.Machine.{Machine}
 use Rattle.machine.specs.Lent.{Lent}
 use Rattle.requests.specs.declared.SuperblockWrite.{SuperblockWrite}
-use Rattle.requests.specs.declared.SuperblockWrite.TheVariants as write
-use Rattle.requests.specs.declared.SuperblockWrites.{SuperblockWrites}
+use Rattle.requests.specs.Slots.{SuperblockWrites, put_slot}
 use Rattle.disk.specs.declared.Disk.{Disk}
-use Rattle.requests.specs.Slots.{put_write}
-use Rattle.requests.specs.Laws.Pairs.{read_pair, write_pair}
-use Rattle.joined.specs.declared.AwaitedRead.TheVariants as read
+use Rattle.requests.specs.Laws.Pairs.{slot_pair}
 use Rattle.joined.specs.declared.Awaited.{Awaited}
-use Rattle.joined.specs.Awaited.{slot_ids, piece_awaited, pieces_awaited, commit_write, commit_writes, superblocks_await, other_awaits, ready_awaits, awaited_by}
+use Rattle.joined.specs.declared.AwaitedRead.{AwaitedRead}
+use Rattle.joined.specs.Awaited.{slot_ids, piece_awaited, pieces_awaited, commit_write, commit_writes, superblocks_await, other_awaits, ready_awaits, awaited_by, reading}
 use Rattle.joined.specs.Apart.{slot_wf, slots_wf, rows_clear, selected_interval, clear_by, writes_clear}
 use Rattle.joined.specs.Joined.{joined_by, joined_ok}
 use Rattle.joined.proofs.Laws.Held.{reads_facts, facts_reads, read_bound, awaited_map, ReadsDiffer, journal_reads_facts, facts_journal_reads, writes_facts, facts_writes}
 use Rattle.joined.proofs.Laws.Apart.{apart_facts, facts_apart, clear_facts, facts_clear}
-use Rattle.refine.specs.Disk.View.{superblock_in, write_in, disk_of, SizedDisk}
+use Rattle.refine.specs.Disk.View.{write_in, disk_of, SizedDisk}
 use Rattle.refine.specs.Disk.Meets.{counted_own, Met}
 use Rattle.refine.specs.Machine.LoadingView.{outstanding_read, awaited_read}
-use Rattle.refine.specs.Machine.ReadyView.{slot_of, write_of, new_of}
+use Rattle.refine.specs.Machine.ReadyView.{write_of, new_of}
 use Rattle.refine.specs.Machine.MachineView.{machine_of, MachineMet}
 use Rattle.refine.specs.Machine.MachineKinds.{by_kind_is}
 use Rattle.refine.specs.Store.View.{store_of}
@@ -63,16 +61,20 @@ slot_awaits_is (slot_read.Success superblock) = refl
 slot_awaits_is slot_read.Corruption = refl
 
 -- a piece's read
-piece_awaits : (p : Piece) (o : Option JournalInterval) (m : Map JournalInterval) → read_bound (piece_awaited p (maybe_interval o)) m ≡ bind_read (awaited_read p) o m
+piece_awaits : (p : Piece) (o : Option JournalInterval) (m : Map JournalInterval) → read_bound (piece_awaited p (optional o)) m ≡ bind_read (awaited_read p) o m
 piece_awaits piece.Unread o m = refl
 piece_awaits (piece.Reading id) none m = refl
 piece_awaits (piece.Reading id) (some v) m = refl
 piece_awaits piece.In o m = refl
 
-piece_read_is : (p : Piece) (o : Option JournalInterval) (id : ℕ) (v : JournalInterval) → piece_awaited p (maybe_interval o) ≡ read.Reading id v → awaited_read p ≡ some id
+abbrev awaited_id : code.Option AwaitedRead → Option ℕ
+awaited_id (Some r) = some r.id
+awaited_id None = none
+
+piece_read_is : (p : Piece) (o : Option JournalInterval) (id : ℕ) (v : JournalInterval) → piece_awaited p (optional o) ≡ reading id v → awaited_read p ≡ some id
 piece_read_is piece.Unread o id v e = ruin (cc)
 piece_read_is (piece.Reading k) none id v e = ruin (cc)
-piece_read_is (piece.Reading k) (some w) id v e = cc
+piece_read_is (piece.Reading k) (some w) id v e = ap awaited_id e
 piece_read_is piece.In o id v e = ruin (cc)
 
 -- a commit's write, to the other slot
@@ -82,10 +84,10 @@ commit_awaits (commit.CommitAdvanceLog id new) = refl
 commit_awaits (commit.CommitAdvanceLocation id new) = refl
 
 module _ (g : Geometry) (l : Lent) where
-  superblock_reads_await : (m : Machine) → each_of id_set (read_pair (awaited_by g m).superblockReads) ≡ awaited_superblock_reads (machine_of g l m)
+  superblock_reads_await : (m : Machine) → each_of id_set (slot_pair (awaited_by g m).superblockReads) ≡ awaited_superblock_reads (machine_of g l m)
   unfolding awaited_by superblocks_await other_awaits ready_awaits
   superblock_reads_await m =
-      by_kind_is (λ m. each_of id_set (read_pair (awaited_by g m).superblockReads) ≡ awaited_superblock_reads (machine_of g l m)) m
+      by_kind_is (λ m. each_of id_set (slot_pair (awaited_by g m).superblockReads) ≡ awaited_superblock_reads (machine_of g l m)) m
       (λ i. record { first = slot_awaits_is m.superblocks.first i; second = slot_awaits_is m.superblocks.second i })
       (λ i. record { first = ids_empty i; second = ids_empty i })
       (λ i. record { first = ids_empty i; second = ids_empty i })
@@ -110,16 +112,16 @@ module _ (g : Geometry) (l : Lent) where
 
   -- where `which` is 0 or 1
   commit_writes_await : (which : ℕ) (c : Commit) → which ≤ 1
-      → each_of write_in (write_pair (commit_writes (cond (eqb which 0) 1 0) c)) ≡ put (both none) (not (slot_of which)) (new_write (write_of c) (new_of c))
-  unfolding commit_writes put_write
+      → each_of write_in (slot_pair (commit_writes (cond (eqb which 0) 1 0) c)) ≡ put (both none) (not (is_second which)) (new_write (write_of c) (new_of c))
+  unfolding commit_writes put_slot
   commit_writes_await zero c h = λ i. record { first = none; second = commit_awaits c i }
   commit_writes_await (suc zero) c h = λ i. record { first = commit_awaits c i; second = none }
   commit_writes_await (suc (suc n)) c h = ruin (omega arith)
 
-  superblock_writes_await : (m : Machine) → MachineMet g l m → each_of write_in (write_pair (awaited_by g m).superblockWrites) ≡ awaited_superblock_writes (machine_of g l m)
+  superblock_writes_await : (m : Machine) → MachineMet g l m → each_of write_in (slot_pair (awaited_by g m).superblockWrites) ≡ awaited_superblock_writes (machine_of g l m)
   unfolding awaited_by superblocks_await other_awaits ready_awaits
   superblock_writes_await m =
-      by_kind_is (λ m. MachineMet g l m → each_of write_in (write_pair (awaited_by g m).superblockWrites) ≡ awaited_superblock_writes (machine_of g l m)) m
+      by_kind_is (λ m. MachineMet g l m → each_of write_in (slot_pair (awaited_by g m).superblockWrites) ≡ awaited_superblock_writes (machine_of g l m)) m
       (λ h. refl)
       (λ h. refl)
       (λ h. commit_writes_await m.ready.whichSuperblock m.ready.commit h.form.kind.which_in)
@@ -142,15 +144,15 @@ module _ (g : Geometry) (l : Lent) where
 abbrev request_of : ℕ → Superblock → ReqWriteSuperblockId
 request_of id s = record { id = id; req = record { superblock = s } }
 
-write_by_view : (a b : SuperblockWrite) → write_in a ≡ write_in b → a ≡ b
-write_by_view write.NoWrite write.NoWrite e = refl
-write_by_view write.NoWrite (write.Writing k s) e = ruin (cc)
-write_by_view (write.Writing k s) write.NoWrite e = ruin (cc)
-write_by_view (write.Writing k s) (write.Writing j t) e =
-    let q : request_of k s ≡ request_of j t = some-injective (request_of k s) (request_of j t) e in
-    λ i. write.Writing (q i).id (q i).req.superblock
+write_by_view : (a b : code.Option SuperblockWrite) → write_in a ≡ write_in b → a ≡ b
+write_by_view None None e = refl
+write_by_view None (Some k) e = ruin (cc)
+write_by_view (Some k) None e = ruin (cc)
+write_by_view (Some k) (Some j) e =
+    let q = some-injective (request_of k.id k.superblock) (request_of j.id j.superblock) e in
+    λ i. Some (record { id = (q i).id; superblock = (q i).req.superblock })
 
-writes_by_view : (a b : SuperblockWrites) → each_of write_in (write_pair a) ≡ each_of write_in (write_pair b) → a ≡ b
+writes_by_view : (a b : SuperblockWrites) → each_of write_in (slot_pair a) ≡ each_of write_in (slot_pair b) → a ≡ b
 writes_by_view a b e =
     λ i.
     record {
@@ -159,21 +161,17 @@ writes_by_view a b e =
     }
 
 -- a slot's superblock, both ways
-record SlotHolds (g : Geometry) (x : MaybeSuperblock) : Type 0 where
+record SlotHolds (g : Geometry) (x : code.Option Superblock) : Type 0 where
   value : Superblock
-  holds : x ≡ slot.Holds value
+  holds : x ≡ Some value
   wf : WFSuperblock g value
 
-slot_facts : (g : Geometry) (x : MaybeSuperblock) → slot_wf g x ≡ true → SlotHolds g x
-slot_facts g (slot.Holds s) e = record { value = s; holds = refl; wf = superblock_facts g s e }
-slot_facts g slot.Empty e = false_true e
+slot_facts : (g : Geometry) (x : code.Option Superblock) → slot_wf g x ≡ true → SlotHolds g x
+slot_facts g (Some s) e = record { value = s; holds = refl; wf = superblock_facts g s e }
+slot_facts g None e = false_true e
 
-facts_slot : (g : Geometry) (x : MaybeSuperblock) → SlotHolds g x → slot_wf g x ≡ true
+facts_slot : (g : Geometry) (x : code.Option Superblock) → SlotHolds g x → slot_wf g x ≡ true
 facts_slot g x h = ap (slot_wf g) h.holds ∙ facts_superblock g h.value h.wf
-
-slot_by_view : (x : MaybeSuperblock) (s : Superblock) → superblock_in x ≡ some s → x ≡ slot.Holds s
-slot_by_view (slot.Holds t) s e = cc
-slot_by_view slot.Empty s e = ruin (cc)
 
 module _ (g : Geometry) (blocks marks : List ℕ) (d : Disk) where
   slots_held : slots_wf g d.slots ≡ true → SlotHolds g d.slots.first × SlotHolds g d.slots.second
@@ -186,15 +184,15 @@ module _ (g : Geometry) (blocks marks : List ℕ) (d : Disk) where
   abbrev wf_of : SlotHolds g d.slots.first → SlotHolds g d.slots.second → WFDisk g (disk_of g blocks marks d)
   wf_of a b =
       record {
-        first = record { value = a.value; holds = ap superblock_in a.holds; wf = a.wf };
-        second = record { value = b.value; holds = ap superblock_in b.holds; wf = b.wf };
+        first = record { value = a.value; holds = ap option_of a.holds; wf = a.wf };
+        second = record { value = b.value; holds = ap option_of b.holds; wf = b.wf };
       }
 
   abbrev first_of : WFDisk g (disk_of g blocks marks d) → SlotHolds g d.slots.first
-  first_of w = record { value = w.first.value; holds = slot_by_view d.slots.first w.first.value w.first.holds; wf = w.first.wf }
+  first_of w = record { value = w.first.value; holds = option_same d.slots.first (Some w.first.value) w.first.holds; wf = w.first.wf }
 
   abbrev second_of : WFDisk g (disk_of g blocks marks d) → SlotHolds g d.slots.second
-  second_of w = record { value = w.second.value; holds = slot_by_view d.slots.second w.second.value w.second.holds; wf = w.second.wf }
+  second_of w = record { value = w.second.value; holds = option_same d.slots.second (Some w.second.value) w.second.holds; wf = w.second.wf }
 
   -- where both slots hold a superblock, the selected interval is theirs
   cleared : (a : SlotHolds g d.slots.first) (b : SlotHolds g d.slots.second)
@@ -221,7 +219,7 @@ module _ (g : Geometry) (l : Lent) (blocks marks : List ℕ) (m : Machine) (d : 
         wf = wf_of g blocks marks d held.0 held.1;
         superblock_reads_is = reads_facts a.superblockReads d.superblockReads (also_left _ _ e1) ∙ superblock_reads_await g l m;
         journal_reads_is = journal_reads_facts a.journalReads d.journalReads z.journal_reads_is (also_left _ _ e2) ∙ journal_reads_await g l m;
-        superblock_writes = ap (λ (w : SuperblockWrites). each_of write_in (write_pair w)) (writes_facts a.superblockWrites d.superblockWrites (also_left _ _ e3))
+        superblock_writes = ap (λ (w : SuperblockWrites). each_of write_in (slot_pair w)) (writes_facts a.superblockWrites d.superblockWrites (also_left _ _ e3))
             ∙ superblock_writes_await g l m h;
         journal_writes_is = same_facts d.journalWrites z.journal_writes_is a.journalWrites (also_left _ _ e4) ∙ journal_writes_await g l m;
         writes_apart = apart_facts d.journalWrites (also_left _ _ e5);

@@ -1,13 +1,14 @@
 -- A call that is taken keeps what record and lent memory add to the view: with questions 1 and 2 answered yes before it, the form is there after it,
 -- and the counts of the next state are within the limits.
 use Prim.Native.Nat.{ℕ}
-use Rattle.std.specs.Prelude.{◌≡◌, refl}
+use Rattle.std.specs.Prelude.{◌≡◌, refl, Ok}
+use Rattle.std.specs.declared.option.Option as code
 use Rattle.std.proofs.Math.Path.{sym, subst}
 use Rattle.std.proofs.Common.{◌∙◌, ap}
 use Rattle.std.proofs.Math.Logic.{⊎_elim}
 use Rattle.laws.specs.Choice.{and_then_left, and_then_right, unless_done, asked_either, ruin}
+use Rattle.refusal.specs.Refusal.{refusal}
 use Rattle.layout.specs.declared.Geometry.{Geometry}
-use Rattle.superblock.specs.declared.MaybeId.{MaybeId}
 use Rattle.superblock.specs.declared.DiskOp.{DiskOp}
 use Rattle.ready.specs.declared.Bodies.{Bodies}
 use Rattle.memory.specs.Given.{memory, count_of}
@@ -19,7 +20,6 @@ use Rattle.machine.specs.Loading.{ask_loaded, finish_loading_other_phase_machine
 use Rattle.disk.specs.Operation.{operation_next}
 use Rattle.disk.specs.Laws.Questions.{state_asked}
 use Rattle.store.specs.declared.Store.{Store}
-use Rattle.store.specs.declared.StoreAnswer.TheVariants as answer
 use Rattle.store.specs.declared.StoreStepped.{StoreStepped}
 use Rattle.store.specs.Whole.{asked}
 use Rattle.store.specs.Store as S
@@ -50,14 +50,14 @@ unfolding ask_store ask_rest
 asked_tabled g l s e = ok_tabled g s.disk (state_asked g s.disk (and_then_left _ _ (and_then_right _ _ (and_then_right _ _ e))))
 
 -- one number decides
-answered_formed : (l : Lent) (q : ℕ) (op : DiskOp) (next s : Store) (o : DiskOp) → (S.answered q op next s).answer ≡ answer.Next o → (q ≡ 0 → Formed l next)
+answered_formed : (l : Lent) (q : ℕ) (op : DiskOp) (next s : Store) (o : DiskOp) → (S.answered q op next s).answer ≡ Ok o → (q ≡ 0 → Formed l next)
     → Formed l (S.answered q op next s).store
 answered_formed l q op next s o h f =
     let k = (next_asked q op next s o h).0 in
     subst (λ (r : StoreStepped). Formed l r.store) (sym (asked_next q op next s k)) (f k)
 
 -- a step of the machine with its operation
-both_formed : (g : Geometry) (l : Lent) (s : Store) → Tabled s.disk → (q : ℕ) (op : DiskOp) (next : Machine) (o : DiskOp) → (both g s q op next).answer ≡ answer.Next o
+both_formed : (g : Geometry) (l : Lent) (s : Store) → Tabled s.disk → (q : ℕ) (op : DiskOp) (next : Machine) (o : DiskOp) → (both g s q op next).answer ≡ Ok o
     → (ask_both g s q op ≡ 0 → q ≡ 0 → MachineForm (machine_lent l) next) → Formed l (both g s q op next).store
 unfolding both ask_both
 both_formed g l s t q op next o h f =
@@ -84,7 +84,7 @@ module _ (g : Geometry) (l : Lent) (v : Given) (s : Store) (z : SizedStore s) (e
   t = asked_tabled g l s e
 
   -- lent memory after a yes
-  written_machine_lent : (id1 : ℕ) (id2 : MaybeId) → ask_write_journal g s id1 id2 b ≡ 0
+  written_machine_lent : (id1 : ℕ) (id2 : code.Option ℕ) → ask_write_journal g s id1 id2 b ≡ 0
       → machine_lent (step_lent_with g l v s (step.WriteBackJournalReq id1 id2) b)
       ≡ record { bytes = moved_bytes m b l.bytes; lens = moved_lens m b l.lens; pieces = l.pieces; rbytes = l.rbytes; rlens = l.rlens }
   unfolding step_lent_with
@@ -128,7 +128,7 @@ module _ (g : Geometry) (l : Lent) (v : Given) (s : Store) (z : SizedStore s) (e
       }
 
   -- call by call
-  pub step_formed : (x : Step) (o : DiskOp) → (step_answer_with g l v s x b).answer ≡ answer.Next o → Formed (step_lent_with g l v s x b) (step_answer_with g l v s x b).store
+  pub step_formed : (x : Step) (o : DiskOp) → (step_answer_with g l v s x b).answer ≡ Ok o → Formed (step_lent_with g l v s x b) (step_answer_with g l v s x b).store
   unfolding step_answer_with step_lent_with ask_write_journal ask_advance_log_step ask_advance_location_step
   step_formed (step.WriteBackJournalReq id1 id2) o h =
       both_formed g (step_lent_with g l v s (step.WriteBackJournalReq id1 id2) b) s t _ _ _ o h
@@ -167,21 +167,21 @@ module _ (g : Geometry) (l : Lent) (v : Given) (s : Store) (z : SizedStore s) (e
 
 -- a taken call: its own questions and those of its picture were answered yes, and it is the step after them
 module _ (g : Geometry) (l : Lent) (v : Given) (s : Store) (x : Step) (o : DiskOp) where
-  pub taken_asked : (stepped g l v s x).answer ≡ answer.Next o
+  pub taken_asked : (stepped g l v s x).answer ≡ Ok o
       → (ask_step g l v s x ≡ 0) × (stepped g l v s x ≡ step_answer_with g l v s x (bodies_of l.lens s.machine))
   unfolding stepped asked
   taken_asked h =
       ⊎_elim
       (λ y. (y.0, sym y.1))
       (λ n. let p = n.1 in ruin (cc))
-      (asked_either (ask_step g l v s x) (step_answer_with g l v s x (bodies_of l.lens s.machine)) (S.refused s (ask_step g l v s x)) (stepped g l v s x) refl)
+      (asked_either (ask_step g l v s x) (step_answer_with g l v s x (bodies_of l.lens s.machine)) (S.refused s (refusal (ask_step g l v s x))) (stepped g l v s x) refl)
 
   -- lent memory too
   pub taken_lent : ask_step g l v s x ≡ 0 → stepped_lent g l v s x ≡ step_lent_with g l v s x (bodies_of l.lens s.machine)
   unfolding stepped_lent
   taken_lent q = unless_done (ask_step g l v s x) l (step_lent_with g l v s x (bodies_of l.lens s.machine)) q
 
-  pub taken_formed : SizedStore s → (stepped g l v s x).answer ≡ answer.Next o → Formed (stepped_lent g l v s x) (stepped g l v s x).store
+  pub taken_formed : SizedStore s → (stepped g l v s x).answer ≡ Ok o → Formed (stepped_lent g l v s x) (stepped g l v s x).store
   unfolding ask_step
   taken_formed z h =
       let k = taken_asked h in
@@ -190,7 +190,7 @@ module _ (g : Geometry) (l : Lent) (v : Given) (s : Store) (x : Step) (o : DiskO
       (step_formed g l v s z e x o (ap (λ (r : StoreStepped). r.answer) (sym k.1) ∙ h))
 
   -- the form is kept
-  pub form_kept : SizedStore s → (stepped g l v s x).answer ≡ answer.Next o → StoreForm g (stepped_lent g l v s x) (stepped g l v s x).store
+  pub form_kept : SizedStore s → (stepped g l v s x).answer ≡ Ok o → StoreForm g (stepped_lent g l v s x) (stepped g l v s x).store
   unfolding ask_step
   form_kept z h =
       let n = taken_formed z h in

@@ -1,6 +1,7 @@
 -- Every step keeps the lengths of lent memory, and marks stay 0 or 1. So what record and question ask of lent memory alone holds again.
 use Prim.Native.Nat.{ℕ, ◌+◌, ◌-◌, ◌*◌, ◌/◌, ◌≤◌}
 use Rattle.std.specs.Prelude.{Bool, true, ◌≡◌, refl, length, take, drop, replicate}
+use Rattle.std.specs.declared.option.Option as code
 use Rattle.std.proofs.Common.{sym, ◌∙◌, ap, subst, arith, length-append, length-take, length-drop, length-take-le}
 use mathlib.Core.List.{List, ◌++◌}
 use Rattle.std.proofs.lemmas.List.{length-replicate}
@@ -12,7 +13,6 @@ use Rattle.laws.specs.Around.{splice_around, length_splice_around}
 use Rattle.layout.specs.declared.Geometry.{Geometry}
 use Rattle.interval.specs.declared.JournalInterval.{JournalInterval}
 use Rattle.interval.specs.Facts.{interval_facts}
-use Rattle.superblock.specs.declared.MaybeId.{MaybeId}
 use Rattle.journal.specs.Memory.{is_mark, update_marks, copy_blocks, ask_journal}
 use Rattle.journal.specs.Asked.{Marks, journal_marks}
 use Rattle.range.specs.Form.{block_size, length_width, most_entry_length, used, blocks_for, all_entries}
@@ -131,7 +131,7 @@ module _ (xs bytes lens : List ℕ) (r : Room xs bytes lens) where
       length_splice lens 0 (lengths (all_entries xs)) (omega (arith, length_lengths (all_entries xs), all_entries_count length_width most_entry_length xs r.parse, r.for_lens))
 
 module _ (g : Geometry) (l : Lent) (v : Given) (s : Store) (m : Marks g l.marks) where
-  written_alike : (id1 : ℕ) (id2 : MaybeId) (b : Bodies) → Alike l (written_lent g l s (ask_write_journal g s id1 id2 b) b)
+  written_alike : (id1 : ℕ) (id2 : code.Option ℕ) (b : Bodies) → Alike l (written_lent g l s (ask_write_journal g s id1 id2 b) b)
   unfolding ask_write_journal ask_both
   written_alike id1 id2 b =
       let q : ℕ = ask_write_journal g s id1 id2 b in

@@ -1,18 +1,20 @@
 -- Calls of a store that loads: both reads, the answer of a superblock read, the end of the superblocks' phase, and ask again.
-use Rattle.std.specs.Prelude.{ℕ, ◌≤◌, Bool, true, false, ◌≡◌}
+use Rattle.std.specs.Prelude.{ℕ, ◌≤◌, Bool, true, false, ◌≡◌, Ok}
+use Rattle.std.specs.declared.option.Option as code
 use Rattle.std.proofs.Common.{sym, ◌∙◌, ap, subst, ⊎_elim}
 use Rattle.std.proofs.Math.Option.{Option, none, some}
 use Rattle.laws.specs.Choice.{and_then_right}
 use Rattle.laws.specs.Sets.{at}
+use Rattle.laws.specs.Optional.{option_of}
 use Rattle.layout.specs.declared.Geometry.{Geometry}
 use Rattle.superblock.specs.declared.Superblock.{Superblock}
 use Rattle.superblock.specs.declared.DiskOp.{DiskOp}
 use Rattle.superblock.specs.declared.DiskOp.TheVariants as op
-use Rattle.superblock.specs.declared.MaybeSuperblock.{MaybeSuperblock}
 use Rattle.codec.specs.Format.{format}
 use Rattle.loading.specs.Laws.Which.{which_asked}
 use Rattle.loading.specs.Laws.Other.{page_in_journal_req_asked}
 use Rattle.loading.specs.Laws.Superblocks.{ask_again_asked}
+use Rattle.loading.specs.Which.{is_second}
 use Rattle.source.specs.JournalDisk as D
 use Rattle.source.specs.JournalCache.{PageInJournalReqStep, PageInSuperblockReqStep, PageInSuperblockRespStep, FinishLoadingSuperblockPhaseStep, NoOpStep}
 use Rattle.source.specs.Limits.{limits}
@@ -28,15 +30,12 @@ use Rattle.requests.specs.Laws.Pairs.{bit_of}
 use Rattle.requests.specs.Laws.Receive.{recv_read_superblock_asked}
 use Rattle.requests.specs.Laws.Acknowledge.{read_whole, read_damaged}
 use Rattle.store.specs.declared.Store.{Store}
-use Rattle.store.specs.declared.StoreAnswer.TheVariants as answer
 use Rattle.store.specs.Lent.{Lent, machine_lent, ask_store}
 use Rattle.store.specs.Steps.{read_journal, read_superblock, content_of, superblock_read, finish_superblocks, ask_again}
 use Rattle.calls.specs.declared.calls.Step.TheVariants as step
 use Rattle.calls.specs.Given.{Given}
 use Rattle.refine.specs.Disk.View.{disk_of}
 use Rattle.refine.specs.Disk.SuperblockReads.{holds_of}
-use Rattle.refine.specs.Machine.LoadingView.{superblock_in}
-use Rattle.refine.specs.Machine.ReadyView.{slot_of}
 use Rattle.refine.specs.Machine.MachineMeets.{met_machine}
 use Rattle.refine.specs.Machine.MachineJournal.{page_in_journal_req_clauses}
 use Rattle.refine.specs.Machine.MachineSuperblocks.{page_in_superblock_req_clauses, ask_again_clauses, finish_loading_superblock_phase_clauses}
@@ -62,57 +61,57 @@ module _ (g : Geometry) (l : Lent) (s : Store) (z : SizedStore s) (m : StoreMet 
   slot_there false = (m.joined.wf.first.value, sym m.joined.wf.first.holds)
   slot_there true = (m.joined.wf.second.value, sym m.joined.wf.second.holds)
 
-  whole_content : (x : Superblock) × (superblock_in (content_of s which true) ≡ some x)
+  whole_content : (x : Superblock) × (option_of (content_of s which true) ≡ some x)
   whole_content =
       let k = slot_there (bit_of which) in (
         k.0,
-        ap (λ (y : MaybeSuperblock). superblock_in (read_from true y)) (holds_of g s.disk which id l.blocks l.marks k.0 k.1) ∙ ap superblock_in (read_whole k.0),
+        ap (λ (y : code.Option Superblock). option_of (read_from true y)) (holds_of g s.disk which id l.blocks l.marks k.0 k.1) ∙ ap option_of (read_whole k.0),
       )
 
-  damaged_content : superblock_in (content_of s which false) ≡ none
-  damaged_content = ap superblock_in (read_damaged (slot_at s.disk.slots which))
+  damaged_content : option_of (content_of s which false) ≡ none
+  damaged_content = ap option_of (read_damaged (slot_at s.disk.slots which))
 
   awaited_tied : (whole : Bool)
-      → Tied (ledger.superblock_read (slot_of which) id whole)
-      (MachineStep (D.RespReadSuperblockOp id (slot_of which) (superblock_in (content_of s which whole))) (Source (PageInSuperblockRespStep (slot_of which))))
+      → Tied (ledger.superblock_read (is_second which) id whole)
+      (MachineStep (D.RespReadSuperblockOp id (is_second which) (option_of (content_of s which whole))) (Source (PageInSuperblockRespStep (is_second which))))
   awaited_tied true =
       let k = whole_content in
       subst
       (λ (o : Option Superblock).
-      Tied (ledger.superblock_read (slot_of which) id true) (MachineStep (D.RespReadSuperblockOp id (slot_of which) o) (Source (PageInSuperblockRespStep (slot_of which)))))
+      Tied (ledger.superblock_read (is_second which) id true) (MachineStep (D.RespReadSuperblockOp id (is_second which) o) (Source (PageInSuperblockRespStep (is_second which)))))
       (sym k.1) Tied.tied_superblock
   awaited_tied false =
       subst
       (λ (o : Option Superblock).
-      Tied (ledger.superblock_read (slot_of which) id false) (MachineStep (D.RespReadSuperblockOp id (slot_of which) o) (Source (PageInSuperblockRespStep (slot_of which)))))
+      Tied (ledger.superblock_read (is_second which) id false) (MachineStep (D.RespReadSuperblockOp id (is_second which) o) (Source (PageInSuperblockRespStep (is_second which)))))
       (sym damaged_content) Tied.tied_corrupt
 
   unawaited_tied : (whole : Bool)
-      → Tied (ledger.superblock_read (slot_of which) id whole)
-      (MachineStep (D.RespReadSuperblockOp id (slot_of which) (superblock_in (content_of s which whole))) (Source NoOpStep))
+      → Tied (ledger.superblock_read (is_second which) id whole)
+      (MachineStep (D.RespReadSuperblockOp id (is_second which) (option_of (content_of s which whole))) (Source NoOpStep))
   unawaited_tied true =
       let k = whole_content in
-      subst (λ (o : Option Superblock). Tied (ledger.superblock_read (slot_of which) id true) (MachineStep (D.RespReadSuperblockOp id (slot_of which) o) (Source NoOpStep)))
+      subst (λ (o : Option Superblock). Tied (ledger.superblock_read (is_second which) id true) (MachineStep (D.RespReadSuperblockOp id (is_second which) o) (Source NoOpStep)))
       (sym k.1) Tied.unawaited_superblock
   unawaited_tied false =
-      subst (λ (o : Option Superblock). Tied (ledger.superblock_read (slot_of which) id false) (MachineStep (D.RespReadSuperblockOp id (slot_of which) o) (Source NoOpStep)))
+      subst (λ (o : Option Superblock). Tied (ledger.superblock_read (is_second which) id false) (MachineStep (D.RespReadSuperblockOp id (is_second which) o) (Source NoOpStep)))
       (sym damaged_content) Tied.unawaited_corrupt
 
 module _ (g : Geometry) (l : Lent) (v : Given) (s : Store) (z : SizedStore s) (e : ask_store g l s ≡ 0) where
   -- the call of a slot that is there
-  said : (which : ℕ) (call : Bool → Call) → which ≤ 1 → (dop : D.DiskOp) (t : Step⁺) → Tied (call (slot_of which)) (MachineStep dop t)
+  said : (which : ℕ) (call : Bool → Call) → which ≤ 1 → (dop : D.DiskOp) (t : Step⁺) → Tied (call (is_second which)) (MachineStep dop t)
       → Tied (named which call) (MachineStep dop t)
   said which call w dop t h = subst (λ (x : Call). Tied x (MachineStep dop t)) (sym (named_is which call w)) h
 
   -- PageInJournalReq
-  pub read_journal_takes : (which id : ℕ) (o : DiskOp) → (read_journal g s which id).answer ≡ answer.Next o
+  pub read_journal_takes : (which id : ℕ) (o : DiskOp) → (read_journal g s which id).answer ≡ Ok o
       → Takes g format limits (seen g l s) (seen g l (read_journal g s which id).store) (call_of v (step.PageInJournalReq which id))
   read_journal_takes which id o h =
       both_takes g l s z e (ask_page_in_journal_req_step g s.machine which) (page_in_journal_req_op g s.machine which id) (page_in_journal_req_machine s.machine which id)
       (call_of v (step.PageInJournalReq which id)) o h tt
       (λ m q d.
       record {
-        step = Source (PageInJournalReqStep (slot_of which));
+        step = Source (PageInJournalReqStep (is_second which));
         moves =
             page_in_journal_req_clauses g (machine_lent l) s.machine which id
             (met_machine g (machine_lent l) s.machine z.machine m.machine) q;
@@ -120,20 +119,20 @@ module _ (g : Geometry) (l : Lent) (v : Given) (s : Store) (z : SizedStore s) (e
       })
 
   -- PageInSuperblockReq
-  pub read_superblock_takes : (which id : ℕ) (o : DiskOp) → (read_superblock g s which id).answer ≡ answer.Next o
+  pub read_superblock_takes : (which id : ℕ) (o : DiskOp) → (read_superblock g s which id).answer ≡ Ok o
       → Takes g format limits (seen g l s) (seen g l (read_superblock g s which id).store) (call_of v (step.PageInSuperblockReq which id))
   read_superblock_takes which id o h =
       both_takes g l s z e (ask_page_in_superblock_req_step s.machine which id) (page_in_superblock_req_op which id) (page_in_superblock_req_machine s.machine which id)
       (call_of v (step.PageInSuperblockReq which id)) o h tt
       (λ m q d.
       record {
-        step = Source (PageInSuperblockReqStep (slot_of which));
+        step = Source (PageInSuperblockReqStep (is_second which));
         moves = page_in_superblock_req_clauses g (machine_lent l) s.machine which id q;
         tied = said which (λ w. ledger.read_superblock w id) (recv_read_superblock_asked s.disk.superblockReads which id d).which_in _ _ Tied.tied_read;
       })
 
   -- PageInSuperblockResp: the machine awaits it, or nobody does
-  pub superblock_read_takes : (which id : ℕ) (whole : Bool) (o : DiskOp) → (superblock_read g s which id whole).answer ≡ answer.Next o
+  pub superblock_read_takes : (which id : ℕ) (whole : Bool) (o : DiskOp) → (superblock_read g s which id whole).answer ≡ Ok o
       → Takes g format limits (seen g l s) (seen g l (superblock_read g s which id whole).store) (call_of v (step.PageInSuperblockResp which id whole))
   superblock_read_takes which id whole o h =
       both_takes g l s z e (ask_page_in_superblock_resp_step which) (page_in_superblock_resp_op which id (content_of s which whole))
@@ -143,7 +142,7 @@ module _ (g : Geometry) (l : Lent) (v : Given) (s : Store) (z : SizedStore s) (e
       ⊎_elim
       (λ c.
       record {
-        step = Source (PageInSuperblockRespStep (slot_of which));
+        step = Source (PageInSuperblockRespStep (is_second which));
         moves = c;
         tied = said which (λ w. ledger.superblock_read w id whole) (which_asked which q) _ _ (awaited_tied g l s z m which id whole);
       })
@@ -156,7 +155,7 @@ module _ (g : Geometry) (l : Lent) (v : Given) (s : Store) (z : SizedStore s) (e
       (page-in-superblock-resp-clauses g (machine_lent l) s.machine which id (content_of s which whole)))
 
   -- FinishLoadingSuperblockPhase
-  pub finish_superblocks_takes : (o : DiskOp) → (finish_superblocks g s).answer ≡ answer.Next o
+  pub finish_superblocks_takes : (o : DiskOp) → (finish_superblocks g s).answer ≡ Ok o
       → Takes g format limits (seen g l s) (seen g l (finish_superblocks g s).store) (call_of v step.FinishLoadingSuperblockPhase)
   finish_superblocks_takes o h =
       both_takes g l s z e (ask_finish_loading_superblock_phase_step s.machine) op.NoDiskOp (finish_loading_superblock_phase_machine s.machine) ledger.finish_superblocks o h tt
@@ -168,13 +167,13 @@ module _ (g : Geometry) (l : Lent) (v : Given) (s : Store) (z : SizedStore s) (e
       })
 
   -- ask again
-  pub ask_again_takes : (which : ℕ) (o : DiskOp) → (ask_again g s which).answer ≡ answer.Next o
+  pub ask_again_takes : (which : ℕ) (o : DiskOp) → (ask_again g s which).answer ≡ Ok o
       → Takes g format limits (seen g l s) (seen g l (ask_again g s which).store) (call_of v (step.AskAgain which))
   ask_again_takes which o h =
       both_takes g l s z e (ask_ask_again_step s.machine which) op.NoDiskOp (ask_again_machine s.machine which) (call_of v (step.AskAgain which)) o h tt
       (λ m q d.
       record {
-        step = AskAgainStep (slot_of which);
+        step = AskAgainStep (is_second which);
         moves = ask_again_clauses g (machine_lent l) s.machine which q;
         tied = said which (λ w. ledger.ask_again w) (again_which s.machine which q) _ _ Tied.tied_again;
       })

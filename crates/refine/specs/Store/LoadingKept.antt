@@ -1,6 +1,7 @@
 -- Steps of a machine that loads, the step to work, and those that bring entries keep its form too.
-use Prim.Native.Nat.{ℕ, ◌+◌, ◌-◌, ◌≤◌}
+use Prim.Native.Nat.{ℕ, ◌+◌, ◌≤◌}
 use Rattle.std.specs.Prelude.{Bool, true, false, cond, ◌≡◌, refl, take}
+use Rattle.std.specs.declared.option.Option as code
 use Rattle.std.proofs.Math.Path.{sym, ap, subst}
 use Rattle.std.proofs.Common.{◌∙◌, arith}
 use mathlib.Core.List.{List}
@@ -12,7 +13,6 @@ use Rattle.laws.specs.Splice.{clipped, clipped_fits, splice}
 use Rattle.laws.specs.Sets.{Distinct}
 use Rattle.layout.specs.declared.Geometry.{Geometry}
 use Rattle.superblock.specs.declared.Superblock.{Superblock}
-use Rattle.superblock.specs.declared.SuperblockRead.{SuperblockRead}
 use Rattle.superblock.specs.declared.JournalRead.{JournalRead}
 use Rattle.superblock.specs.Superblock.{select_superblock_index, increment_superblock_counter}
 use Rattle.superblock.specs.Laws.{selects_first, selects_second}
@@ -20,7 +20,6 @@ use Rattle.tables.specs.SyncTable.{valid_states}
 use Rattle.range.specs.Form.{length_width, most_entry_length, all_entries}
 use Rattle.range.specs.Ranges.{all_entries_count, all_entries_bytes}
 use Rattle.range.specs.Memory.{total}
-use Rattle.memory.specs.Answer.{counted_done, refusal_counted}
 use Rattle.memory.specs.Given.{memory, count_of, ask_added, added_asked}
 use Rattle.memory.specs.Limits.{store_limits}
 use Rattle.memory.specs.Replay.{is_next}
@@ -41,6 +40,7 @@ use Rattle.machine.specs.Lent.{Lent}
 use Rattle.machine.specs.Questions.{bodies_of}
 use Rattle.machine.specs.Working.{appended_bytes, appended_lens, given_of, count_in, ask_advance_step, advance_machine, ask_replay_given, ask_replay_step, taken_then, replay_machine}
 use Rattle.machine.specs.Loading.{ask_page_in_journal_req_step, page_in_journal_req_machine, page_in_journal_resp_machine, page_in_superblock_req_machine, page_in_superblock_resp_machine, ask_finish_loading_superblock_phase_step, finish_loading_superblock_phase_machine, loaded_bytes, ask_finish_loading_other_phase_step, ask_loaded, loaded_machine, finish_loading_other_phase_machine, loaded_replay_bytes, loaded_replay_lens, ask_again_machine}
+use Rattle.machine.specs.Laws.Entries.{given_number, given_count}
 use Rattle.refine.specs.Machine.ReadyView.{ReadyLent}
 use Rattle.refine.specs.Machine.ReadyForm.{ReadyForm}
 use Rattle.refine.specs.Machine.MachineView.{ready_lent, MachineLent, MachineForm}
@@ -100,7 +100,7 @@ module _ (g : Geometry) (l : Lent) (m : Machine) (f : MachineForm l m) where
   unfolding page_in_superblock_req_machine
   read_superblock_kept which id = record { sync = f.sync; kind = f.kind }
 
-  pub superblock_read_kept : (which id : ℕ) (r : SuperblockRead) → MachineForm l (page_in_superblock_resp_machine g m which id r)
+  pub superblock_read_kept : (which id : ℕ) (r : code.Option Superblock) → MachineForm l (page_in_superblock_resp_machine g m which id r)
   unfolding page_in_superblock_resp_machine
   superblock_read_kept which id r =
       by_kind_is (λ x. MachineForm l x → MachineForm l (page_in_superblock_resp_machine g x which id r)) m
@@ -163,21 +163,18 @@ module _ (g : Geometry) (l : Lent) (m : Machine) (t : MachineLent g l) (f : Mach
         rlens = l.rlens;
       }
 
-  given_count : ask_added (memory brought sizes k) ≡ 0 → count_in (given_of brought sizes k) ≡ count k (total sizes k)
-  given_count q = sym (ap count_in (counted_done (ask_added (memory brought sizes k)) (count_of (memory brought sizes k)) q))
-
   pub add_kept : ask_advance_step m held (given_of brought sizes k) ≡ 0 → MachineForm appended (advance_machine m held (given_of brought sizes k))
   unfolding ask_advance_step advance_machine
   add_kept q =
       let e = work_asked m (and_then_left _ _ q) in
       let q1 = and_then_right _ _ q in
       let asked : ask_added (memory brought sizes k) ≡ 0 =
-      sym (refusal_counted (ask_added (memory brought sizes k)) (count_of (memory brought sizes k))) ∙ and_then_left _ _ q1 in
+      sym (given_number brought sizes k) ∙ and_then_left _ _ q1 in
       let given = asked_entries brought sizes k (added_asked (memory brought sizes k) asked).0 in
       let bodies = (bodies_found l m e).pending_is in
       let may : MayAdvance store_limits m.ready (total l.lens m.ready.entries.pending) (count k (total sizes k)) =
       advance_asked store_limits m.ready (total l.lens m.ready.entries.pending) (count k (total sizes k))
-      ((λ i. ask_advance store_limits m.ready (sym bodies i) (sym (given_count asked) i)) ∙ and_then_right _ _ q1)
+      ((λ i. ask_advance store_limits m.ready (sym bodies i) (sym (given_count brought sizes k asked) i)) ∙ and_then_right _ _ q1)
       in
       let long = length-take-le k sizes given.there in
       let many = length-take-le (total sizes k) brought given.fit in
@@ -195,7 +192,7 @@ module _ (g : Geometry) (l : Lent) (m : Machine) (t : MachineLent g l) (f : Mach
             work_kind appended m (advance_next m.ready (n + (count_in (given_of brought sizes k)).entries)) e
             (subst
             (λ (x : ReadyLent × ℕ). ReadyForm x.0 (advance_next m.ready (n + x.1)))
-            (λ i. (record { bytes = sym bytes-is i; lens = sym lens-is i; rbytes = l.rbytes; rlens = l.rlens }, (sym (given_count asked) i).entries))
+            (λ i. (record { bytes = sym bytes-is i; lens = sym lens-is i; rbytes = l.rbytes; rlens = l.rlens }, (sym (given_count brought sizes k asked) i).entries))
             (advance_form (ready_lent l) m.ready (work_form g l m e f) brought sizes k given
             (omega (arith, may.entries_fit, t.lens_lent))
             (omega (arith, may.bytes_fit, t.bytes_lent))));

@@ -1,22 +1,21 @@
 -- A step of the machine that is taken keeps its form, in every kind.
-use Rattle.std.specs.Prelude.{ℕ, ◌-◌, ◌≤◌, Bool, ◌≡◌, refl, take}
+use Rattle.std.specs.Prelude.{ℕ, ◌≤◌, Bool, ◌≡◌, refl, take}
+use Rattle.std.specs.declared.option.Option as code
 use Rattle.std.proofs.Math.Bool.{true, false}
 use Rattle.std.proofs.Common.{sym, subst, arith}
 use Rattle.laws.specs.Choice.{also, and_then_left, and_then_right}
 use Rattle.layout.specs.declared.Geometry.{Geometry}
 use Rattle.layout.specs.declared.Location.{Location}
-use Rattle.superblock.specs.declared.MaybeId.{MaybeId}
 use Rattle.tables.specs.declared.SyncTable.{SyncTable}
 use Rattle.tables.specs.Rows.{place_of, Counted}
 use Rattle.tables.specs.SyncTable.{SizedSyncs, ok_state, valid_states, added_sync, removed_sync, moved_syncs}
 use Rattle.tables.proofs.Laws.Counts.{add_asked}
 use Rattle.tables.proofs.Laws.SyncTables.{syncs_added_ok, syncs_added_valid, syncs_removed_ok, syncs_removed_valid, syncs_moved_ok, syncs_moved_valid}
-use Rattle.memory.specs.Given.{memory}
 use Rattle.ready.specs.declared.Bodies.{Bodies}
 use Rattle.ready.specs.declared.Ready.{Ready}
 use Rattle.ready.specs.declared.Commit.{Commit}
 use Rattle.ready.specs.declared.Commit.TheVariants as commit
-use Rattle.ready.specs.State.{none_frozen, none_in_memory, awaits_id, count, left, with_commit}
+use Rattle.ready.specs.State.{none_frozen, none_in_memory, awaits_id, with_commit}
 use Rattle.ready.specs.JournalSteps.{write_back_journal_resp_next}
 use Rattle.ready.specs.CommitSteps.{advanced_log, advanced_location, write_back_superblock_resp_next}
 use Rattle.ready.specs.FreezeSteps.{freeze_next, receive_frozen_loc_next}
@@ -96,7 +95,7 @@ module _ (g : Geometry) (l : Lent) (m : Machine) (z : SizedMachine m) (f : Machi
   abbrev moved : Bodies → Lent
   moved b = record { bytes = moved_bytes m b l.bytes; lens = moved_lens m b l.lens; pieces = l.pieces; rbytes = l.rbytes; rlens = l.rlens }
 
-  pub write_kept : (id1 : ℕ) (id2 : MaybeId) (b : Bodies) → ask_write_back_journal_req_step g m id1 id2 b ≡ 0 → MachineForm (moved b) (write_back_journal_req_machine m id1 id2 b)
+  pub write_kept : (id1 : ℕ) (id2 : code.Option ℕ) (b : Bodies) → ask_write_back_journal_req_step g m id1 id2 b ≡ 0 → MachineForm (moved b) (write_back_journal_req_machine m id1 id2 b)
   unfolding ask_write_back_journal_req_step written_machine
   write_kept id1 id2 b q =
       let e = work_asked m (and_then_left _ _ q) in

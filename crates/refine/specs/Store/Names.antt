@@ -1,12 +1,12 @@
 -- What the driver of crate driver names is heard as the call that history's driver names, of every machine that loads; and it brings nothing along.
-use Rattle.std.specs.Prelude.{ℕ, Bool, true, false, ◌≡◌, refl}
+use Rattle.std.specs.Prelude.{ℕ, Bool, true, false, ◌≡◌, refl, None, Some, Ok, Err}
+use Rattle.std.specs.declared.option.Option as code
 use Rattle.std.proofs.Math.Option.{Option, none, some}
 use Rattle.laws.specs.Choice.{true_false, false_true}
 use Rattle.layout.specs.declared.Geometry.{Geometry}
 use Rattle.interval.specs.declared.JournalInterval.{JournalInterval}
-use Rattle.interval.specs.declared.MaybeInterval.{MaybeInterval}
-use Rattle.interval.specs.declared.MaybeInterval.TheVariants as maybe
-use Rattle.interval.specs.Answer.{maybe_interval}
+use Rattle.laws.specs.Optional.{optional}
+use Rattle.refusal.specs.declared.Refusal.TheVariants as no
 use Rattle.superblock.specs.Superblock.{journal_front_interval_of_superblock, journal_back_interval_of_superblock}
 use Rattle.codec.specs.Codec.{JournalRange}
 use Rattle.history.specs.Ledger as ledger
@@ -25,7 +25,6 @@ use Rattle.disk.specs.declared.Disk.{Disk}
 use Rattle.calls.specs.declared.calls.Step.{Step}
 use Rattle.calls.specs.declared.calls.Step.TheVariants as step
 use Rattle.calls.specs.Given.{Given}
-use Rattle.driver.specs.declared.Drive.TheVariants as drive
 use Rattle.driver.specs.Driver.{slot_step, piece_step, superblocks_step, other_step, loading_step}
 use Rattle.driver.specs.Ids.{least_new}
 use Rattle.refine.specs.Machine.LoadingView.{outstanding_read, read_result, awaited_read, loaded_piece, front_in, back_in}
@@ -47,7 +46,7 @@ module _ (v : Given) (new : ℕ) where
   slots_heard (slot.Success x) (slot.Success y) = refl
 
   second_heard : (o : Option JournalInterval) (b : Piece) (j : JournalRange)
-      → or_else (piece_next new true o (awaited_read b) (loaded_piece b j)) ledger.finish_other ≡ call_of v (piece_step new 1 (maybe_interval o) b step.FinishLoadingOtherPhase)
+      → or_else (piece_next new true o (awaited_read b) (loaded_piece b j)) ledger.finish_other ≡ call_of v (piece_step new 1 (optional o) b step.FinishLoadingOtherPhase)
   second_heard none b j = refl
   second_heard (some u) piece.Unread j = refl
   second_heard (some u) (piece.Reading id) j = refl
@@ -55,7 +54,7 @@ module _ (v : Given) (new : ℕ) where
 
   pieces_heard : (o p : Option JournalInterval) (a b : Piece) (i j : JournalRange)
       → or_else (piece_next new false o (awaited_read a) (loaded_piece a i)) (or_else (piece_next new true p (awaited_read b) (loaded_piece b j)) ledger.finish_other)
-      ≡ call_of v (piece_step new 0 (maybe_interval o) a (piece_step new 1 (maybe_interval p) b step.FinishLoadingOtherPhase))
+      ≡ call_of v (piece_step new 0 (optional o) a (piece_step new 1 (optional p) b step.FinishLoadingOtherPhase))
   pieces_heard none p a b i j = second_heard p b j
   pieces_heard (some u) p piece.Unread b i j = refl
   pieces_heard (some u) p (piece.Reading id) b i j = refl
@@ -67,11 +66,11 @@ slot_plain new which (slot.Awaited id) x e = refl
 slot_plain new which (slot.Success v) x e = e
 slot_plain new which slot.Corruption x e = refl
 
-piece_plain : (new which : ℕ) (o : MaybeInterval) (a : Piece) (x : Step) → brings x ≡ false → brings (piece_step new which o a x) ≡ false
-piece_plain new which maybe.Nothing a x e = e
-piece_plain new which (maybe.Is v) piece.Unread x e = refl
-piece_plain new which (maybe.Is v) (piece.Reading id) x e = refl
-piece_plain new which (maybe.Is v) piece.In x e = e
+piece_plain : (new which : ℕ) (o : code.Option JournalInterval) (a : Piece) (x : Step) → brings x ≡ false → brings (piece_step new which o a x) ≡ false
+piece_plain new which None a x e = e
+piece_plain new which (Some v) piece.Unread x e = refl
+piece_plain new which (Some v) (piece.Reading id) x e = refl
+piece_plain new which (Some v) piece.In x e = e
 
 -- does a machine of this kind load?
 abbrev pub loads : Kind → Bool
@@ -80,7 +79,7 @@ loads k = by_kind k true true false
 -- the step that is named, and the call that it is heard as, whatever is handed with it
 pub record Names (g : Geometry) (l : Lent) (v : Given) (m : Machine) (d : Disk) : Type 0 where
   pub step : Step
-  pub named : loading_step g (record { machine = m; disk = d }) ≡ drive.Take step
+  pub named : loading_step g (record { machine = m; disk = d }) ≡ Ok step
   pub heard : next_call g (machine_of g l m) (least_new d) ≡ some (call_of v step)
   pub plain : brings step ≡ false
 
@@ -111,11 +110,11 @@ names g l v m d = go m.kind
     go kind.Ready e = false_true e
 
 -- at Ready none is
-pub none_named : (g : Geometry) (m : Machine) (d : Disk) → loads m.kind ≡ false → loading_step g (record { machine = m; disk = d }) ≡ drive.Refused 3
+pub none_named : (g : Geometry) (m : Machine) (d : Disk) → loads m.kind ≡ false → loading_step g (record { machine = m; disk = d }) ≡ Err no.Kind
 unfolding loading_step
 none_named g m d = go m.kind
   where
-    go : (k : Kind) → loads k ≡ false → loading_step g (record { machine = of_kind m k; disk = d }) ≡ drive.Refused 3
+    go : (k : Kind) → loads k ≡ false → loading_step g (record { machine = of_kind m k; disk = d }) ≡ Err no.Kind
     go kind.LoadingSuperblock e = true_false e
     go kind.LoadingOther e = true_false e
     go kind.Ready e = refl

@@ -1,17 +1,14 @@
 -- Every step of the machine and every operation of the disk keeps the lengths of the arrays that stand in their records.
-use Rattle.std.specs.Prelude.{ℕ, Bool, cond, eqb, take}
+use Rattle.std.specs.Prelude.{ℕ, Bool, cond, eqb, take, None, Some, Result}
+use Rattle.std.specs.declared.option.Option as code
 use Rattle.std.proofs.Math.Bool.{true, false}
 use Rattle.layout.specs.declared.Geometry.{Geometry}
 use Rattle.layout.specs.declared.Location.{Location}
 use Rattle.interval.specs.declared.JournalInterval.{JournalInterval}
-use Rattle.interval.specs.declared.MaybeInterval.{MaybeInterval}
-use Rattle.interval.specs.declared.MaybeInterval.TheVariants as part
-use Rattle.interval.specs.Answer.{maybe_interval}
+use Rattle.laws.specs.Optional.{optional}
+use Rattle.refusal.specs.declared.Refusal.{Refusal}
 use Rattle.interval.specs.Interval.{interval, journal_front_interval, journal_back_interval}
 use Rattle.superblock.specs.declared.Superblock.{Superblock}
-use Rattle.superblock.specs.declared.MaybeId.{MaybeId}
-use Rattle.superblock.specs.declared.MaybeId.TheVariants as maybe
-use Rattle.superblock.specs.declared.SuperblockRead.{SuperblockRead}
 use Rattle.superblock.specs.declared.JournalRead.{JournalRead}
 use Rattle.superblock.specs.declared.DiskOp.{DiskOp}
 use Rattle.superblock.specs.declared.DiskOp.TheVariants as op
@@ -25,8 +22,7 @@ use Rattle.tables.specs.SyncTable.{SizedSyncs}
 use Rattle.tables.proofs.Laws.IdTables.{sized_added_ids, sized_joined_ids, sized_removed_ids, sized_no_ids}
 use Rattle.tables.proofs.Laws.IntervalTables.{sized_no_intervals, sized_added_intervals, sized_removed_intervals}
 use Rattle.tables.proofs.Laws.SyncTables.{sized_added_syncs, sized_removed_syncs, sized_moved_syncs}
-use Rattle.memory.specs.declared.Count.{Count}
-use Rattle.memory.specs.declared.Counted.{Counted}
+use Rattle.range.specs.declared.Count.{Count}
 use Rattle.ready.specs.declared.Commit.{Commit}
 use Rattle.ready.specs.declared.Commit.TheVariants as commit
 use Rattle.ready.specs.declared.Ready.{Ready}
@@ -43,18 +39,15 @@ use Rattle.machine.specs.Machine.{by_kind}
 use Rattle.machine.specs.Sync.{push_sync_req_machine, pop_sync_req_machine}
 use Rattle.machine.specs.Working.{sent_sync, written_machine, write_back_journal_resp_machine, commit_requested, advance_log_machine, advance_location_machine, answered_sync, commit_answered, write_back_superblock_resp_machine, freeze_machine, receive_frozen_loc_machine, advance_machine, replay_machine}
 use Rattle.machine.specs.Loading.{page_in_journal_req_machine, page_in_journal_resp_machine, page_in_superblock_req_machine, page_in_superblock_resp_machine, finish_loading_superblock_phase_machine, loaded_machine, ask_again_machine}
-use Rattle.requests.specs.declared.Slots.{Slots}
-use Rattle.requests.specs.declared.SuperblockReads.{SuperblockReads}
+use Rattle.requests.specs.Slots.{Slots, SuperblockReads, slot_at, put_slot}
 use Rattle.disk.specs.declared.Disk.{Disk}
 use Rattle.disk.specs.Disk.{idle_disk}
-use Rattle.requests.specs.Slots.{reads_at, put_reads}
 use Rattle.requests.specs.Receive.{read_received, added_part, write_received}
 use Rattle.disk.specs.Next.{recv_read_superblock_next, recv_read_journal_next, recv_write_superblock_next, recv_write_journal_next}
 use Rattle.requests.specs.Acknowledge.{read_acked, interval_left}
 use Rattle.disk.specs.Next.{ack_read_superblock_next, ack_read_journal_next, ack_write_superblock_next, ack_write_journal_next}
 use Rattle.disk.specs.Operation.{operation_next}
 use Rattle.disk.specs.Next.{land_next}
-use Rattle.store.specs.Steps.{both}
 use Rattle.refine.specs.Disk.View.{SizedDisk}
 use Rattle.refine.specs.Disk.SuperblockReads.{reads_sized}
 use Rattle.refine.specs.Machine.MachineView.{SizedMachine}
@@ -63,33 +56,33 @@ use Rattle.refine.specs.Machine.MachineView.{SizedMachine}
 
 -- what holds of both slots' tables and of another holds with that one in its place
 module _ (P : IdTable → Type 0) (r : SuperblockReads) (which : ℕ) (x : IdTable) (a : P r.first) (b : P r.second) (c : P x) where
-  pub put_first : P (put_reads r which x).first
-  unfolding put_reads
+  pub put_first : P (put_slot r which x).first
+  unfolding put_slot
   put_first = go (eqb which 0)
     where
       go : (t : Bool) → P (cond {A = IdTable} t x r.first)
       go true = c
       go false = a
 
-  pub put_second : P (put_reads r which x).second
-  unfolding put_reads
+  pub put_second : P (put_slot r which x).second
+  unfolding put_slot
   put_second = go (eqb which 0)
     where
       go : (t : Bool) → P (cond {A = IdTable} t r.second x)
       go true = b
       go false = c
 
-part_sized : (t : IntervalTable) (id : ℕ) (v : MaybeInterval) → SizedIntervals t → SizedIntervals (added_part t id v)
+part_sized : (t : IntervalTable) (id : ℕ) (v : code.Option JournalInterval) → SizedIntervals t → SizedIntervals (added_part t id v)
 unfolding added_part
-part_sized t id (part.Is v) l = sized_added_intervals t l id v
-part_sized t id part.Nothing l = l
+part_sized t id (Some v) l = sized_added_intervals t l id v
+part_sized t id None l = l
 
-written_sized : (g : Geometry) (t : IntervalTable) (id1 : ℕ) (id2 : MaybeId) (v : JournalInterval) → SizedIntervals t → SizedIntervals (write_received g t id1 id2 v)
+written_sized : (g : Geometry) (t : IntervalTable) (id1 : ℕ) (id2 : code.Option ℕ) (v : JournalInterval) → SizedIntervals t → SizedIntervals (write_received g t id1 id2 v)
 unfolding write_received
-written_sized g t id1 (maybe.Id id) v l =
-    part_sized (added_part t id1 (maybe_interval (journal_front_interval g v.start v.len))) id (maybe_interval (journal_back_interval g v.start v.len))
-    (part_sized t id1 (maybe_interval (journal_front_interval g v.start v.len)) l)
-written_sized g t id1 maybe.NoId v l = sized_added_intervals t l id1 v
+written_sized g t id1 (Some id) v l =
+    part_sized (added_part t id1 (optional (journal_front_interval g v.start v.len))) id (optional (journal_back_interval g v.start v.len))
+    (part_sized t id1 (optional (journal_front_interval g v.start v.len)) l)
+written_sized g t id1 None v l = sized_added_intervals t l id1 v
 
 left_sized : (t : IntervalTable) (id : ℕ) → SizedIntervals t → SizedIntervals (interval_left t id)
 unfolding interval_left
@@ -107,11 +100,11 @@ module _ (d : Disk) (z : SizedDisk d) where
   unfolding ack_read_journal_next
   read_left_sized id = record { reads1 = z.reads1; reads2 = z.reads2; journal_reads_is = left_sized d.journalReads id z.journal_reads_is; journal_writes_is = z.journal_writes_is }
 
-  at_sized : (which : ℕ) → SizedIds (reads_at d.superblockReads which)
+  at_sized : (which : ℕ) → SizedIds (slot_at d.superblockReads which)
   at_sized which = reads_sized d.superblockReads which z.reads1 z.reads2
 
   reads_put_sized : (which : ℕ) (x : IdTable) → SizedIds x
-      → SizedDisk (record { slots = d.slots; superblockReads = put_reads d.superblockReads which x; superblockWrites = d.superblockWrites; journalReads = d.journalReads; journalWrites = d.journalWrites })
+      → SizedDisk (record { slots = d.slots; superblockReads = put_slot d.superblockReads which x; superblockWrites = d.superblockWrites; journalReads = d.journalReads; journalWrites = d.journalWrites })
   reads_put_sized which x c =
       record {
         reads1 = put_first SizedIds d.superblockReads which x z.reads1 z.reads2 c;
@@ -123,7 +116,7 @@ module _ (d : Disk) (z : SizedDisk d) where
   pub operation_sized : (g : Geometry) (o : DiskOp) → SizedDisk (operation_next g d o)
   unfolding recv_read_superblock_next recv_read_journal_next recv_write_superblock_next recv_write_journal_next ack_read_superblock_next ack_write_superblock_next ack_write_journal_next read_received read_acked
   operation_sized g (op.ReqReadSuperblock id which) =
-      reads_put_sized which (added_id (reads_at d.superblockReads which) id) (sized_added_ids (reads_at d.superblockReads which) (at_sized which) id)
+      reads_put_sized which (added_id (slot_at d.superblockReads which) id) (sized_added_ids (slot_at d.superblockReads which) (at_sized which) id)
   operation_sized g (op.ReqReadJournal id v) =
       record { reads1 = z.reads1; reads2 = z.reads2; journal_reads_is = sized_added_intervals d.journalReads z.journal_reads_is id v; journal_writes_is = z.journal_writes_is }
   operation_sized g (op.ReqWriteSuperblock id which superblock) =
@@ -131,7 +124,7 @@ module _ (d : Disk) (z : SizedDisk d) where
   operation_sized g (op.ReqWriteJournal id1 id2 start count) =
       record { reads1 = z.reads1; reads2 = z.reads2; journal_reads_is = z.journal_reads_is; journal_writes_is = written_sized g d.journalWrites id1 id2 (interval start count) z.journal_writes_is }
   operation_sized g (op.RespReadSuperblock id which superblock) =
-      let t : IdTable = reads_at d.superblockReads which in
+      let t : IdTable = slot_at d.superblockReads which in
       reads_put_sized which (removed_id t (place_of id (take t.count t.ids))) (sized_removed_ids t (at_sized which) (place_of id (take t.count t.ids)))
   operation_sized g (op.RespReadJournal id journal) = read_left_sized id
   operation_sized g (op.RespWriteSuperblock id which) =
@@ -147,9 +140,9 @@ kind_sized kind.LoadingSuperblock a b c x y w = x
 kind_sized kind.LoadingOther a b c x y w = y
 kind_sized kind.Ready a b c x y w = w
 
-joined_sized : (t : IdTable) (id1 : ℕ) (id2 : MaybeId) → SizedIds t → SizedIds (joined_ids t id1 id2)
-joined_sized t id1 maybe.NoId l = sized_joined_ids t l id1
-joined_sized t id1 (maybe.Id id2) l = sized_joined_ids (joined_id t id1) (sized_joined_ids t l id1) id2
+joined_sized : (t : IdTable) (id1 : ℕ) (id2 : code.Option ℕ) → SizedIds t → SizedIds (joined_ids t id1 id2)
+joined_sized t id1 None l = sized_joined_ids t l id1
+joined_sized t id1 (Some id2) l = sized_joined_ids (joined_id t id1) (sized_joined_ids t l id1) id2
 
 sent_sized : (b : Bool) (t : SyncTable) → SizedSyncs t → SizedSyncs (sent_sync b t)
 unfolding sent_sync
@@ -180,7 +173,7 @@ committed_sized r id l = go r.commit
     go (commit.CommitAdvanceLocation k new) = by_location (eqb k id) new
 
 module _ (m : Machine) (z : SizedMachine m) where
-  pub write_sized : (id1 : ℕ) (id2 : MaybeId) (written : ℕ) → SizedMachine (written_machine m id1 id2 written)
+  pub write_sized : (id1 : ℕ) (id2 : code.Option ℕ) (written : ℕ) → SizedMachine (written_machine m id1 id2 written)
   unfolding written_machine write_back_journal_req_next
   write_sized id1 id2 written =
       record { syncs = sent_sized (none_frozen m.ready.entries) m.sync z.syncs; writes = joined_sized m.ready.writes id1 id2 z.writes }
@@ -217,7 +210,7 @@ module _ (m : Machine) (z : SizedMachine m) where
   unfolding page_in_superblock_req_machine
   read_superblock_sized which id = record { syncs = z.syncs; writes = z.writes }
 
-  pub superblock_read_sized : (g : Geometry) (which id : ℕ) (r : SuperblockRead) → SizedMachine (page_in_superblock_resp_machine g m which id r)
+  pub superblock_read_sized : (g : Geometry) (which id : ℕ) (r : code.Option Superblock) → SizedMachine (page_in_superblock_resp_machine g m which id r)
   unfolding page_in_superblock_resp_machine
   superblock_read_sized g which id r = kind_sized m.kind _ m m (record { syncs = z.syncs; writes = z.writes }) z z
 
@@ -237,7 +230,7 @@ module _ (m : Machine) (z : SizedMachine m) where
   unfolding receive_frozen_loc_machine receive_frozen_loc_next
   receive_sized loc = record { syncs = z.syncs; writes = z.writes }
 
-  pub add_sized : (b : Bodies) (given : Counted) → SizedMachine (advance_machine m b given)
+  pub add_sized : (b : Bodies) (given : Result Count Refusal) → SizedMachine (advance_machine m b given)
   unfolding advance_machine advance_next
   add_sized b given = record { syncs = z.syncs; writes = z.writes }
 

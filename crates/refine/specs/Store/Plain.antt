@@ -1,6 +1,6 @@
 -- What is alike in every call that leaves lent memory alone: from the answer to a yes of machine and disk, and from their two halves to a step that
 -- the source allows. And what a call is called where its arguments are no nonsense.
-use Rattle.std.specs.Prelude.{ℕ, ◌≤◌, Bool, cond, ◌≡◌, List, [], leb, length}
+use Rattle.std.specs.Prelude.{ℕ, ◌≤◌, Bool, cond, ◌≡◌, List, [], leb, length, Ok}
 use Rattle.std.proofs.Common.{sym, ap, le-leb}
 use Rattle.std.proofs.Math.Path.{subst}
 use Rattle.laws.specs.Choice.{and_then, and_then_left, and_then_right, also_both}
@@ -13,17 +13,16 @@ use Rattle.source.specs.Departures.{Step⁺, NextStep⁺, MachineStep}
 use Rattle.history.specs.Ledger as ledger
 use Rattle.history.specs.Ledger.{Call}
 use Rattle.history.specs.Statement.{Tied, Takes}
+use Rattle.loading.specs.Which.{is_second}
 use Rattle.machine.specs.declared.Machine.{Machine}
 use Rattle.disk.specs.Operation.{ask_decision, operation_next}
 use Rattle.store.specs.declared.Store.{Store}
-use Rattle.store.specs.declared.StoreAnswer.TheVariants as answer
 use Rattle.store.specs.declared.StoreStepped.{StoreStepped}
 use Rattle.store.specs.Store.{store}
 use Rattle.store.specs.Lent.{Lent, machine_lent, ask_store}
 use Rattle.store.specs.Steps.{ask_both, both}
 use Rattle.store.specs.Laws.Answers.{asked_next, next_asked}
 use Rattle.refine.specs.Machine.ReadyForm.{Given}
-use Rattle.refine.specs.Machine.ReadyView.{slot_of}
 use Rattle.refine.specs.Machine.MachineView.{machine_of, operation_of}
 use Rattle.refine.specs.Store.Seen.{seen, SizedStore, StoreMet, store_met, met_system, named, entries_call}
 use Rattle.refine.specs.Store.Operations.{Plain, decided}
@@ -50,7 +49,7 @@ module _ (g : Geometry) (l : Lent) (s : Store) (z : SizedStore s) where
       }
 
   -- from the answer
-  pub both_takes : ask_store g l s ≡ 0 → (q : ℕ) (op : DiskOp) (next : Machine) (x : Call) (o : DiskOp) → (both g s q op next).answer ≡ answer.Next o → Plain op
+  pub both_takes : ask_store g l s ≡ 0 → (q : ℕ) (op : DiskOp) (next : Machine) (x : Call) (o : DiskOp) → (both g s q op next).answer ≡ Ok o → Plain op
       → (StoreMet g l s z → q ≡ 0 → ask_decision g s.disk op ≡ 0 → Moves g l s op next x)
       → Takes g format limits (seen g l s) (seen g l (both g s q op next).store) x
   unfolding both ask_both
@@ -64,8 +63,8 @@ module _ (g : Geometry) (l : Lent) (s : Store) (z : SizedStore s) where
       (moves_takes m op next x p d (f m (and_then_left q (ask_decision g s.disk op) k.0) d))
 
 -- a slot that is there, and entries that are
-pub named_is : (which : ℕ) (call : Bool → Call) → which ≤ 1 → named which call ≡ call (slot_of which)
-named_is which call h = ap (λ (b : Bool). cond b (call (slot_of which)) ledger.nonsense) (le-leb which 1 h)
+pub named_is : (which : ℕ) (call : Bool → Call) → which ≤ 1 → named which call ≡ call (is_second which)
+named_is which call h = ap (λ (b : Bool). cond b (call (is_second which)) ledger.nonsense) (le-leb which 1 h)
 
 pub entries_is : (brought sizes : List ℕ) (k : ℕ) (call : Call) → Given brought sizes k → entries_call brought sizes k call ≡ call
 entries_is brought sizes k call h =

@@ -1,6 +1,6 @@
 -- Questions 1 and 2 never turn away a store that came from `Init` by its own calls: what was reached passes them, and a call that is taken leads to a
 -- store that was reached and passes them again. Beside the answer only that the call is a step of the source (`Takes`) is asked, which soundness shows.
-use Rattle.std.specs.Prelude.{ℕ, Bool, true, false, cond, ◌≡◌, List, leb, length, take}
+use Rattle.std.specs.Prelude.{ℕ, Bool, true, false, cond, ◌≡◌, List, leb, length, take, Ok}
 use Rattle.std.proofs.Common.{sym, ◌∙◌, ap, arith}
 use Rattle.laws.specs.Choice.{also, and_then_left, and_then_right}
 use Rattle.layout.specs.declared.Geometry.{Geometry}
@@ -10,8 +10,7 @@ use Rattle.journal.specs.Cells.{length_cells}
 use Rattle.journal.specs.Blocks.{cell_size}
 use Rattle.range.specs.Memory.{view, total, length_view, lengths_view}
 use Rattle.codec.specs.Format.{format}
-use Rattle.memory.specs.Answer.{refusal_counted}
-use Rattle.memory.specs.Given.{memory, count_of, ask_given, ask_added, added_asked, given_asked}
+use Rattle.memory.specs.Given.{memory, ask_given, added_asked, given_asked}
 use Rattle.source.specs.JournalSystem as Y
 use Rattle.source.specs.JournalSystem.{superblock_of_disk}
 use Rattle.source.specs.Limits.{limits, MachineCounts, DiskCounts}
@@ -23,9 +22,9 @@ use Rattle.history.proofs.Whole.First.{first_parity}
 use Rattle.history.proofs.Reach.Reachable.{Reached, reached_init, reached_step}
 use Rattle.machine.specs.Questions.{bodies_of}
 use Rattle.machine.specs.Working.{ask_advance_step, ask_replay_given, ask_replay_step}
-use Rattle.requests.specs.declared.Slots.{Slots}
+use Rattle.machine.specs.Laws.Entries.{given_number}
+use Rattle.requests.specs.Slots.{Slots}
 use Rattle.store.specs.declared.Store.{Store}
-use Rattle.store.specs.declared.StoreAnswer.TheVariants as answer
 use Rattle.store.specs.declared.StoreStepped.{StoreStepped}
 use Rattle.store.specs.Lent.{Lent, machine_lent, ask_store}
 use Rattle.store.specs.Steps.{ask_both, both}
@@ -88,7 +87,7 @@ either_brings true x b = b
 either_brings false x b = tt
 
 module _ (g : Geometry) (l : Lent) (v : Given) (s : Store) where
-  call_brings : (x : Step) (o : DiskOp) → (step_answer_with g l v s x (bodies_of l.lens s.machine)).answer ≡ answer.Next o → Brings (call_of v x)
+  call_brings : (x : Step) (o : DiskOp) → (step_answer_with g l v s x (bodies_of l.lens s.machine)).answer ≡ Ok o → Brings (call_of v x)
   unfolding step_answer_with both ask_both ask_advance_step ask_replay_step ask_replay_given
   call_brings (step.WriteBackJournalReq id1 id2) o h = tt
   call_brings (step.WriteBackJournalResp id) o h = tt
@@ -107,7 +106,7 @@ module _ (g : Geometry) (l : Lent) (v : Given) (s : Store) where
       let q = and_then_left _ _ (next_asked _ _ _ s o h).0 in
       either_brings (also (leb k (length v.sizes)) (leb (total v.sizes k) (length v.brought))) (ledger.add (view v.brought v.sizes k))
       (given_few v.brought v.sizes k
-      (added_asked (memory v.brought v.sizes k) (sym (refusal_counted (ask_added (memory v.brought v.sizes k)) (count_of (memory v.brought v.sizes k))) ∙ and_then_left _ _ (and_then_right _ _ q))).0)
+      (added_asked (memory v.brought v.sizes k) (sym (given_number v.brought v.sizes k) ∙ and_then_left _ _ (and_then_right _ _ q))).0)
   call_brings (step.Replay k) o h =
       let q = and_then_left _ _ (next_asked _ _ _ s o h).0 in
       either_brings (also (leb k (length v.sizes)) (leb (total v.sizes k) (length v.brought))) (ledger.replay (view v.brought v.sizes k))
@@ -122,7 +121,7 @@ module _ (g : Geometry) (l : Lent) (v : Given) (s : Store) where
 
 -- A call that is taken
 
-module _ (g : Geometry) (l : Lent) (v : Given) (s : Store) (x : Step) (o : DiskOp) (taken : (stepped g l v s x).answer ≡ answer.Next o) (z : SizedStore s) (e : ask_store g l s ≡ 0) where
+module _ (g : Geometry) (l : Lent) (v : Given) (s : Store) (x : Step) (o : DiskOp) (taken : (stepped g l v s x).answer ≡ Ok o) (z : SizedStore s) (e : ask_store g l s ≡ 0) where
   abbrev l' : Lent
   l' = stepped_lent g l v s x
 
@@ -144,7 +143,7 @@ module _ (g : Geometry) (l : Lent) (v : Given) (s : Store) (x : Step) (o : DiskO
 
 -- leads to a store that was reached, which passes questions 1 and 2 again
 module _ (g : Geometry) (p : ℕ) (l : Lent) (v : Given) (s : Store) (books : Ledger) (x : Step) (o : DiskOp) (r : StoreReached g p l s books)
-    (taken : (stepped g l v s x).answer ≡ answer.Next o)
+    (taken : (stepped g l v s x).answer ≡ Ok o)
     (takes : Takes g format limits (seen g l s) (seen g (stepped_lent g l v s x) (stepped g l v s x).store) (call_of v x)) where
   pub reach_step : StoreReached g p (stepped_lent g l v s x) (stepped g l v s x).store (tell g format (call_of v x) books)
   reach_step =

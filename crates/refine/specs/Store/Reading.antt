@@ -1,7 +1,7 @@
 -- PageInJournalResp: the answer is the disk's own. Whole, the blocks of the interval that it holds go to the place of the piece that awaits them, which
 -- is as long.
 use Prim.Native.Nat.{ℕ, ◌*◌, ◌/◌}
-use Rattle.std.specs.Prelude.{Bool, ◌≡◌, refl, ◌⊎◌}
+use Rattle.std.specs.Prelude.{Bool, ◌≡◌, refl, Ok}
 use Rattle.std.proofs.Math.Bool.{true, false}
 use Rattle.std.proofs.Math.Path.{sym, ap, subst}
 use Rattle.std.proofs.Common.{◌∙◌, arith, take_all}
@@ -41,7 +41,6 @@ use Rattle.disk.specs.Memory.{read_out}
 use Rattle.requests.specs.Laws.Acknowledge.{held_is, ack_read_journal_waiting}
 use Rattle.disk.specs.Laws.Memory.{out_whole}
 use Rattle.store.specs.declared.Store.{Store}
-use Rattle.store.specs.declared.StoreAnswer.TheVariants as answer
 use Rattle.store.specs.Store.{store}
 use Rattle.store.specs.Lent.{Lent, machine_lent, ask_store, with_pieces}
 use Rattle.store.specs.Steps.{read_of, ask_journal_read, journal_read, copied_pieces, read_pieces}
@@ -161,7 +160,7 @@ module _ (g : Geometry) (l : Lent) (v : Given) (s : Store) (id : ℕ) where
     either_takes true q = whole_takes q
     either_takes false q = damaged_takes q
 
-    pub journal_read_takes : (whole : Bool) (o : DiskOp) → (journal_read s id whole l.marks).answer ≡ answer.Next o
+    pub journal_read_takes : (whole : Bool) (o : DiskOp) → (journal_read s id whole l.marks).answer ≡ Ok o
         → Takes g format limits (seen g l s)
         (seen g (with_pieces l (unless (ask_journal_read s id whole l.marks) l.pieces (read_pieces g s id whole l.blocks l.pieces))) (journal_read s id whole l.marks).store)
         (call_of v (step.PageInJournalResp id whole))

@@ -1,5 +1,6 @@
 -- A step of a machine at work that is taken keeps the form of its record and of the memory beside it.
-use Rattle.std.specs.Prelude.{ℕ, ◌+◌, ◌-◌, ◌≤◌, Bool, cond, ◌≡◌, refl, List, eqb, length, take, drop}
+use Rattle.std.specs.Prelude.{ℕ, ◌+◌, ◌-◌, ◌≤◌, Bool, cond, ◌≡◌, refl, List, eqb, length, take, drop, None, Some}
+use Rattle.std.specs.declared.option.Option as code
 use Rattle.std.proofs.Math.Bool.{true, false}
 use Rattle.std.proofs.Common.{sym, ◌∙◌, ap, arith, length-take-le, drop-drop}
 use Rattle.laws.specs.Choice.{and_then_left, and_then_right}
@@ -9,8 +10,6 @@ use Rattle.laws.specs.Cut.{flat, lengths, length_flat, length_lengths}
 use Rattle.laws.specs.Splice.{splice, length_splice}
 use Rattle.layout.specs.declared.Location.{Location}
 use Rattle.superblock.specs.declared.Superblock.{Superblock}
-use Rattle.superblock.specs.declared.MaybeId.{MaybeId}
-use Rattle.superblock.specs.declared.MaybeId.TheVariants as maybe
 use Rattle.tables.specs.declared.IdTable.{IdTable}
 use Rattle.tables.specs.Rows.{place_of, Counted}
 use Rattle.tables.specs.IdTable.{SizedIds, no_ids, joined_id, removed_id}
@@ -18,7 +17,7 @@ use Rattle.tables.proofs.Laws.Counts.{counted_none}
 use Rattle.tables.proofs.Laws.IdTables.{ids_joined_ok, ids_removed_ok}
 use Rattle.range.specs.Form.{Entry}
 use Rattle.range.specs.Memory.{total, total_write, total_split}
-use Rattle.memory.specs.declared.Count.{Count}
+use Rattle.range.specs.declared.Count.{Count}
 use Rattle.ready.specs.declared.Commit.{Commit}
 use Rattle.ready.specs.declared.Commit.TheVariants as commit
 use Rattle.ready.specs.declared.Bodies.{Bodies}
@@ -29,30 +28,29 @@ use Rattle.ready.specs.JournalSteps.{ask_ids, joined_ids, written_entries, write
 use Rattle.ready.specs.CommitSteps.{log_committed, location_committed, answered, write_back_superblock_resp_next}
 use Rattle.ready.specs.FreezeSteps.{freeze_next, receive_frozen_loc_next}
 use Rattle.ready.specs.EntrySteps.{advance_next, replay_next}
+use Rattle.refine.specs.Disk.View.{Table}
+use Rattle.refine.specs.Disk.Meets.{table_of, counted_by_is}
 use Rattle.refine.specs.Machine.ReadyView.{ReadyLent}
-use Rattle.refine.specs.Machine.ReadyForm.{PendingForm, ReplayForm, Given, TableForm, ReadyForm}
+use Rattle.refine.specs.Machine.ReadyForm.{PendingForm, ReplayForm, Given, ReadyForm}
 use Rattle.refine.specs.Machine.ReadyJournal.{moved_lent}
 use Rattle.refine.specs.Machine.ReadyAdvance.{appended_lent}
 use Rattle.refine.specs.Store.Lengths.{moved_long}
 
 -- The table of journal writes
 
-counted_table : (t : IdTable) → Counted 16 t.count t.ids → TableForm t
-counted_table t c = record { in_array = c.in_array; differ = c.differ }
-
 -- its array has as many places as may be
-pub table_counted : (t : IdTable) → SizedIds t → TableForm t → Counted 16 t.count t.ids
-table_counted t z f = record { few = omega (arith, f.in_array, z.ids_long); in_array = f.in_array; differ = f.differ }
+pub table_counted : (t : IdTable) → SizedIds t → Table t.count t.ids → Counted 16 t.count t.ids
+table_counted t z f = counted_by_is 16 t.count t.ids f (omega (arith, f.in_array, z.ids_long))
 
-joined_table : (t : IdTable) (id1 : ℕ) (id2 : MaybeId) → SizedIds t → TableForm t → ask_ids t id1 id2 ≡ 0 → TableForm (joined_ids t id1 id2)
+joined_table : (t : IdTable) (id1 : ℕ) (id2 : code.Option ℕ) → SizedIds t → Table t.count t.ids → ask_ids t id1 id2 ≡ 0 → Table (joined_ids t id1 id2).count (joined_ids t id1 id2).ids
 unfolding ask_ids
-joined_table t id1 maybe.NoId z f q = counted_table (joined_id t id1) (ids_joined_ok t 16 (table_counted t z f) id1 (and_then_left _ _ q))
-joined_table t id1 (maybe.Id id2) z f q =
-    counted_table (joined_id (joined_id t id1) id2)
+joined_table t id1 None z f q = table_of 16 _ _ (ids_joined_ok t 16 (table_counted t z f) id1 (and_then_left _ _ q))
+joined_table t id1 (Some id2) z f q =
+    table_of 16 _ _
     (ids_joined_ok (joined_id t id1) 16 (ids_joined_ok t 16 (table_counted t z f) id1 (and_then_left _ _ q)) id2 (and_then_right _ _ q))
 
-removed_table : (t : IdTable) (i : ℕ) → SizedIds t → TableForm t → TableForm (removed_id t i)
-removed_table t i z f = counted_table (removed_id t i) (ids_removed_ok t 16 (table_counted t z f) i)
+removed_table : (t : IdTable) (i : ℕ) → SizedIds t → Table t.count t.ids → Table (removed_id t i).count (removed_id t i).ids
+removed_table t i z f = table_of 16 _ _ (ids_removed_ok t 16 (table_counted t z f) i)
 
 -- Pending memory, with what is left moved to its front
 
@@ -145,7 +143,7 @@ filled_replay l es room places =
 -- The steps
 
 module _ (l : ReadyLent) (r : Ready) (f : ReadyForm l r) where
-  pub write_form : SizedIds r.writes → (id1 : ℕ) (id2 : MaybeId) (b : Bodies) (written : ℕ) → ask_ids r.writes id1 id2 ≡ 0
+  pub write_form : SizedIds r.writes → (id1 : ℕ) (id2 : code.Option ℕ) (b : Bodies) (written : ℕ) → ask_ids r.writes id1 id2 ≡ 0
       → ReadyForm (moved_lent l (sent r.entries b) (left r.entries b)) (write_back_journal_req_next r id1 id2 written)
   unfolding write_back_journal_req_next written_entries
   write_form z id1 id2 b written q =
@@ -228,8 +226,8 @@ module _ (l : ReadyLent) (r : Ready) (f : ReadyForm l r) where
       }
 
 -- newly loaded
-no_writes : TableForm no_ids
-no_writes = counted_table no_ids (counted_none 16 no_ids.ids)
+no_writes : Table no_ids.count no_ids.ids
+no_writes = table_of 16 _ _ (counted_none 16 no_ids.ids)
 
 pub loaded_form : (l : ReadyLent) (superblock : Superblock) (which : ℕ) (es : List Entry) → which ≤ 1 → sum (lengths es) ≤ length l.rbytes → length es ≤ length l.rlens
     → ReadyForm (record { bytes = l.bytes; lens = l.lens; rbytes = splice l.rbytes 0 (flat es); rlens = splice l.rlens 0 (lengths es) }) (loaded superblock which (length es))

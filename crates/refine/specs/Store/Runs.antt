@@ -12,7 +12,7 @@ use Rattle.source.specs.JournalSystem.{superblock_of_disk}
 use Rattle.history.specs.Ledger.{Ledger, begin, tell, books}
 use Rattle.history.specs.Statement.{Ran}
 use Rattle.history.proofs.Whole.First.{first_parity}
-use Rattle.requests.specs.declared.Slots.{Slots}
+use Rattle.requests.specs.Slots.{Slots}
 use Rattle.store.specs.declared.Store.{Store}
 use Rattle.store.specs.Lent.{Lent, machine_lent, ask_store}
 use Rattle.calls.specs.Step.{stepped}

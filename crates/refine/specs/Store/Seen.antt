@@ -1,7 +1,8 @@
 -- The store as source 004's state, and its calls as the ledger hears them. What record and lent memory add to the view stands in records of
 -- its own.
-use Rattle.std.specs.Prelude.{ℕ, Bool, cond, ◌≡◌, List, leb, eqb, length}
+use Rattle.std.specs.Prelude.{ℕ, Bool, cond, ◌≡◌, List, leb, length}
 use Rattle.laws.specs.Choice.{also, and_then_left, and_then_right, and_then_both, ask_yes, ask_holds}
+use Rattle.laws.specs.Optional.{option_of}
 use Rattle.layout.specs.declared.Geometry.{Geometry}
 use Rattle.range.specs.Memory.{view, total}
 use Rattle.source.specs.JournalSystem as Y
@@ -10,6 +11,7 @@ use Rattle.source.specs.Meets.{Joined, SystemMeets}
 use Rattle.history.specs.Ledger as ledger
 use Rattle.history.specs.Ledger.{Call}
 use Rattle.disk.specs.Questions.{ask_disk}
+use Rattle.loading.specs.Which.{is_second}
 use Rattle.store.specs.declared.Store.{Store}
 use Rattle.store.specs.Lent.{Lent, machine_lent, ask_store, ask_rest}
 use Rattle.calls.specs.declared.calls.Step.{Step}
@@ -17,7 +19,6 @@ use Rattle.calls.specs.declared.calls.Step.TheVariants as step
 use Rattle.calls.specs.Given.{Given}
 use Rattle.refine.specs.Disk.View.{SizedDisk}
 use Rattle.refine.specs.Disk.Meets.{Met, disk_met, met_disk}
-use Rattle.refine.specs.Machine.ReadyView.{id_of, slot_of}
 use Rattle.refine.specs.Machine.MachineView.{SizedMachine, MachineMet}
 use Rattle.refine.specs.Machine.MachineMeets.{machine_met, met_machine}
 use Rattle.refine.specs.Store.View.{store_of}
@@ -69,13 +70,13 @@ module _ (g : Geometry) (l : Lent) (s : Store) (z : SizedStore s) where
 -- Calls. A third slot is nonsense, and so are entries whose lengths or bytes are not there.
 
 abbrev pub named : ℕ → (Bool → Call) → Call
-named which call = cond (leb which 1) (call (slot_of which)) ledger.nonsense
+named which call = cond (leb which 1) (call (is_second which)) ledger.nonsense
 
 abbrev pub entries_call : (brought sizes : List ℕ) → ℕ → Call → Call
 entries_call brought sizes k call = cond (also (leb k (length sizes)) (leb (total sizes k) (length brought))) call ledger.nonsense
 
 abbrev pub call_of : Given → Step → Call
-call_of v (step.WriteBackJournalReq id1 id2) = ledger.write_journal id1 (id_of id2)
+call_of v (step.WriteBackJournalReq id1 id2) = ledger.write_journal id1 (option_of id2)
 call_of v (step.WriteBackJournalResp id) = ledger.journal_written id
 call_of v (step.AdvanceLog id) = ledger.commit_log id
 call_of v (step.AdvanceLocation id) = ledger.commit_location id

@@ -1,10 +1,10 @@
 -- Every step keeps the lengths of the arrays that stand in the store's record, taken or refused.
 use Rattle.std.specs.Prelude.{ℕ, Bool, cond, eqb}
 use Rattle.std.proofs.Math.Bool.{true, false}
+use Rattle.refusal.specs.Refusal.{refusal}
 use Rattle.layout.specs.declared.Geometry.{Geometry}
 use Rattle.superblock.specs.declared.DiskOp.{DiskOp}
 use Rattle.ready.specs.declared.Bodies.{Bodies}
-use Rattle.ready.specs.CommitSteps.{answered}
 use Rattle.machine.specs.declared.Machine.{Machine}
 use Rattle.machine.specs.Questions.{bodies_of}
 use Rattle.disk.specs.Operation.{operation_next}
@@ -28,7 +28,7 @@ answered_sized : (q : ℕ) (o : DiskOp) (next s : Store) → SizedStore next →
 unfolding S.answered
 answered_sized q o next s a b = go (eqb q 0)
   where
-    go : (t : Bool) → SizedStore (cond {A = StoreStepped} t (S.accepted o next) (S.refused s q)).store
+    go : (t : Bool) → SizedStore (cond {A = StoreStepped} t (S.accepted o next) (S.refused s (refusal q))).store
     go true = a
     go false = b
 
@@ -71,6 +71,6 @@ module _ (g : Geometry) (l : Lent) (v : Given) (s : Store) (z : SizedStore s) wh
   unfolding stepped asked
   sized_step x = go (eqb (ask_step g l v s x) 0)
     where
-      go : (t : Bool) → SizedStore (cond {A = StoreStepped} t (step_answer_with g l v s x (bodies_of l.lens s.machine)) (S.refused s (ask_step g l v s x))).store
+      go : (t : Bool) → SizedStore (cond {A = StoreStepped} t (step_answer_with g l v s x (bodies_of l.lens s.machine)) (S.refused s (refusal (ask_step g l v s x)))).store
       go true = answer_sized x (bodies_of l.lens s.machine)
       go false = z

@@ -1,14 +1,15 @@
 -- Every call of the store that is taken is a step that the source allows, between the views; a call that is refused leaves the view. For all calls
 -- at once.
 use Prim.Native.Nat.{ℕ}
-use Rattle.std.specs.Prelude.{Bool, true, false, cond, ◌≡◌, refl, List, eqb}
+use Rattle.std.specs.Prelude.{◌≡◌, refl, List, Ok, Err}
 use Rattle.std.proofs.Math.Path.{sym, ap, subst}
 use Rattle.std.proofs.Common.{◌∙◌}
 use Rattle.laws.specs.Choice.{and_then, and_then_left, and_then_right, and_then_both, unless, unless_kept, unless_done, asked_yes, asked_no, split_eq, ruin}
+use Rattle.refusal.specs.declared.Refusal.{Refusal}
+use Rattle.refusal.specs.Refusal.{refusal}
 use Rattle.layout.specs.declared.Geometry.{Geometry}
 use Rattle.superblock.specs.declared.DiskOp.{DiskOp}
 use Rattle.superblock.specs.declared.DiskOp.TheVariants as op
-use Rattle.journal.specs.Memory.{ask_journal}
 use Rattle.ready.specs.declared.Bodies.{Bodies}
 use Rattle.machine.specs.declared.Machine.{Machine}
 use Rattle.machine.specs.Questions.{bodies_of}
@@ -16,11 +17,8 @@ use Rattle.machine.specs.Loading.{ask_loaded, finish_loading_other_phase_machine
 use Rattle.machine.specs.Working.{moved_bytes, moved_lens, given_of, ask_advance_step, advance_machine}
 use Rattle.codec.specs.Format.{format}
 use Rattle.source.specs.Limits.{limits}
-use Rattle.source.specs.JournalSystem as Y
 use Rattle.history.specs.Statement.{Takes}
 use Rattle.store.specs.declared.Store.{Store}
-use Rattle.store.specs.declared.StoreAnswer.{StoreAnswer}
-use Rattle.store.specs.declared.StoreAnswer.TheVariants as answer
 use Rattle.store.specs.declared.StoreStepped.{StoreStepped}
 use Rattle.store.specs.Whole.{asked}
 use Rattle.store.specs.Store.{store, refused, answered}
@@ -46,7 +44,7 @@ module _ (g : Geometry) (l : Lent) (v : Given) (s : Store) (z : SizedStore s) wh
   b = bodies_of l.lens s.machine
 
   -- after questions 1 and 2
-  asked_takes : ask_store g l s ≡ 0 → (x : Step) → ask_picture g v.picture v.pictured x ≡ 0 → (o : DiskOp) → (step_answer_with g l v s x b).answer ≡ answer.Next o
+  asked_takes : ask_store g l s ≡ 0 → (x : Step) → ask_picture g v.picture v.pictured x ≡ 0 → (o : DiskOp) → (step_answer_with g l v s x b).answer ≡ Ok o
       → Takes g format limits (seen g l s) (seen g (step_lent_with g l v s x b) (step_answer_with g l v s x b).store) (call_of v x)
   unfolding step_answer_with step_lent_with ask_picture
   asked_takes e (step.WriteBackJournalReq id1 id2) p o h = write_takes g l v s id1 id2 z e o h
@@ -73,19 +71,19 @@ module _ (g : Geometry) (l : Lent) (v : Given) (s : Store) (z : SizedStore s) wh
   asked_takes e step.CrashInPlace p o h = crash_in_place_takes g l v s z e
 
   -- whole
-  pub store_takes : (x : Step) (o : DiskOp) → (stepped g l v s x).answer ≡ answer.Next o
+  pub store_takes : (x : Step) (o : DiskOp) → (stepped g l v s x).answer ≡ Ok o
       → Takes g format limits (seen g l s) (seen g (stepped_lent g l v s x) (stepped g l v s x).store) (call_of v x)
   unfolding stepped stepped_lent ask_step asked
   store_takes x o h =
       split_eq asks 0
       (λ q.
-      let a = asked_yes asks (step_answer g l v s x) (refused s asks) q in
+      let a = asked_yes asks (step_answer g l v s x) (refused s (refusal asks)) q in
       let m = unless_done asks l (step_lent g l v s x) q in
       subst (λ (y : StoreStepped × Lent). Takes g format limits (seen g l s) (seen g y.1 y.0.store) (call_of v x))
       (λ i. (sym a i, sym m i))
       (asked_takes (and_then_right _ _ q) x (and_then_left _ _ q) o (ap (λ (y : StoreStepped). y.answer) (sym a) ∙ h)))
       (λ n.
-      let a : (stepped g l v s x).answer ≡ answer.Refused asks = ap (λ (y : StoreStepped). y.answer) (asked_no asks (step_answer g l v s x) (refused s asks) n) in
+      let a : (stepped g l v s x).answer ≡ Err (refusal asks) = ap (λ (y : StoreStepped). y.answer) (asked_no asks (step_answer g l v s x) (refused s (refusal asks)) n) in
       ruin (cc))
     where
       asks : ℕ
@@ -94,27 +92,27 @@ module _ (g : Geometry) (l : Lent) (v : Given) (s : Store) (z : SizedStore s) wh
 -- refused
 module _ (g : Geometry) (l : Lent) (v : Given) (s : Store) (b : Bodies) where
   -- by the number that decides
-  same_store : (q : ℕ) (op : DiskOp) (next : Store) (n : ℕ) → (answered q op next s).answer ≡ answer.Refused n → (answered q op next s).store ≡ s
+  same_store : (q : ℕ) (op : DiskOp) (next : Store) (n : Refusal) → (answered q op next s).answer ≡ Err n → (answered q op next s).store ≡ s
   same_store q op next n h = refused_same q op next s n h
 
-  some_no : (q : ℕ) (op : DiskOp) (next : Store) (n : ℕ) → (answered q op next s).answer ≡ answer.Refused n → q ≡ 0 → ⊥
+  some_no : (q : ℕ) (op : DiskOp) (next : Store) (n : Refusal) → (answered q op next s).answer ≡ Err n → q ≡ 0 → ⊥
   some_no q op next n h = refused_asked q op next s n h
 
-  machine_no : (q n : ℕ) (next : Machine) → (one.both g s q op.NoDiskOp next).answer ≡ answer.Refused n → q ≡ 0 → ⊥
+  machine_no : (q : ℕ) (n : Refusal) (next : Machine) → (one.both g s q op.NoDiskOp next).answer ≡ Err n → q ≡ 0 → ⊥
   unfolding one.both one.ask_both
   machine_no q n next h e = some_no (and_then q 0) op.NoDiskOp (store next s.disk) n h (and_then_both q 0 e refl)
 
   abbrev Kept : Step → Type 0
   Kept x = ((step_answer_with g l v s x b).store ≡ s) × (step_lent_with g l v s x b ≡ l)
 
-  both_kept : (q : ℕ) (op : DiskOp) (next : Machine) (n : ℕ) → (one.both g s q op next).answer ≡ answer.Refused n → (one.both g s q op next).store ≡ s
+  both_kept : (q : ℕ) (op : DiskOp) (next : Machine) (n : Refusal) → (one.both g s q op next).answer ≡ Err n → (one.both g s q op next).store ≡ s
   unfolding one.both
   both_kept q op next n h = same_store _ _ _ n h
 
   pending_kept : (q : ℕ) (bytes lens : List ℕ) → (q ≡ 0 → ⊥) → with_pending l (unless q l.bytes bytes) (unless q l.lens lens) ≡ l
   pending_kept q bytes lens f = λ i. with_pending l (unless_kept q l.bytes bytes f i) (unless_kept q l.lens lens f i)
 
-  asked_kept : (x : Step) (n : ℕ) → (step_answer_with g l v s x b).answer ≡ answer.Refused n → Kept x
+  asked_kept : (x : Step) (n : Refusal) → (step_answer_with g l v s x b).answer ≡ Err n → Kept x
   unfolding step_answer_with step_lent_with one.both one.ask_write_journal
   asked_kept (step.WriteBackJournalReq id1 id2) n h =
       let f = some_no _ _ _ n h in (
@@ -155,17 +153,17 @@ module _ (g : Geometry) (l : Lent) (v : Given) (s : Store) (b : Bodies) where
   asked_kept step.CrashInPlace n h = ruin (cc)
 
 -- whole: store and lent memory are as they were
-pub store_refused : (g : Geometry) (l : Lent) (v : Given) (s : Store) (x : Step) (n : ℕ) → (stepped g l v s x).answer ≡ answer.Refused n
+pub store_refused : (g : Geometry) (l : Lent) (v : Given) (s : Store) (x : Step) (n : Refusal) → (stepped g l v s x).answer ≡ Err n
     → ((stepped g l v s x).store ≡ s) × (stepped_lent g l v s x ≡ l)
 unfolding stepped stepped_lent asked
 store_refused g l v s x n h =
     split_eq asks 0
     (λ q.
-    let a = asked_yes asks (step_answer g l v s x) (refused s asks) q in
+    let a = asked_yes asks (step_answer g l v s x) (refused s (refusal asks)) q in
     let m = unless_done asks l (step_lent g l v s x) q in
     let k = asked_kept g l v s (bodies_of l.lens s.machine) x n (ap (λ (y : StoreStepped). y.answer) (sym a) ∙ h) in
     (ap (λ (y : StoreStepped). y.store) a ∙ k.0, m ∙ k.1))
-    (λ f. (ap (λ (y : StoreStepped). y.store) (asked_no asks (step_answer g l v s x) (refused s asks) f), unless_kept asks l (step_lent g l v s x) f))
+    (λ f. (ap (λ (y : StoreStepped). y.store) (asked_no asks (step_answer g l v s x) (refused s (refusal asks)) f), unless_kept asks l (step_lent g l v s x) f))
   where
     asks : ℕ
     asks = ask_step g l v s x

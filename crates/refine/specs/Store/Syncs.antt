@@ -23,6 +23,7 @@ use Rattle.history.specs.Coverage.{first_page, said, Covered, Idle, Saved}
 use Rattle.history.proofs.Sync.{store_sync_covered, idle_saved, idle_save}
 use Rattle.history.proofs.Calls.Called.{nonsense_refused}
 use Rattle.history.proofs.Whole.Stores.{ran_trace}
+use Rattle.loading.specs.Which.{is_second}
 use Rattle.ready.specs.declared.Entries.{Entries}
 use Rattle.ready.specs.declared.Commit.TheVariants as commit
 use Rattle.ready.specs.State.{commit_slot}
@@ -33,7 +34,7 @@ use Rattle.calls.specs.declared.calls.Step.{Step}
 use Rattle.calls.specs.declared.calls.Step.TheVariants as step
 use Rattle.calls.specs.Given.{Given}
 use Rattle.calls.specs.Step.{stepped, stepped_lent}
-use Rattle.refine.specs.Machine.ReadyView.{ReadyLent, slot_of, write_of}
+use Rattle.refine.specs.Machine.ReadyView.{ReadyLent, write_of}
 use Rattle.refine.specs.Machine.MachineView.{ready_lent, syncs_of}
 use Rattle.refine.specs.Machine.MachineSync.{requests_seen}
 use Rattle.refine.specs.Machine.MachineWork.{work_seen, work_form}
@@ -133,7 +134,7 @@ take_call g s v x t f h k b p =
     }
 
 -- the slot that a commit writes, as a call names it
-other_slot_is : (which : ℕ) → which ≤ 1 → named (cond (eqb which 0) 1 0) (λ w. ledger.land w) ≡ ledger.land (not (slot_of which))
+other_slot_is : (which : ℕ) → which ≤ 1 → named (cond (eqb which 0) 1 0) (λ w. ledger.land w) ≡ ledger.land (not (is_second which))
 other_slot_is zero h = refl
 other_slot_is (suc zero) h = refl
 other_slot_is (suc (suc which)) h = absurd (omega (arith, h))
@@ -147,7 +148,7 @@ module _ (g : Geometry) (s : State) (q : ask_store g s.lent s.store ≡ 0) (idle
 
   -- the slot of the commit
   abbrev slot : Bool
-  slot = not (slot_of s.store.machine.ready.whichSuperblock)
+  slot = not (is_second s.store.machine.ready.whichSuperblock)
 
   abbrev landing : Step
   landing = step.Land (commit_slot s.store.machine.ready)
@@ -206,8 +207,8 @@ pub code_idle_saved : (g : Geometry) (s t : State) → IdleStore s.store → (id
     → syncs_of t.store.machine id ≡ some State1
 code_idle_saved g s t idle id k w v v1 v2 v3 h = sym (table g t id) ∙ by (leb w 1) refl
   where
-    landing : (b : Bool) → leb w 1 ≡ b → named w (λ x. ledger.land x) ≡ cond b (ledger.land (slot_of w)) ledger.nonsense
-    landing b e = ap (λ (c : Bool). cond c (ledger.land (slot_of w)) ledger.nonsense) e
+    landing : (b : Bool) → leb w 1 ≡ b → named w (λ x. ledger.land x) ≡ cond b (ledger.land (is_second w)) ledger.nonsense
+    landing b e = ap (λ (c : Bool). cond c (ledger.land (is_second w)) ledger.nonsense) e
 
     ran : Trace g format limits (state_seen g s) (ledger.push_sync id ∷ ledger.commit_log k ∷ named w (λ x. ledger.land x) ∷ ledger.superblock_written k ∷ []) (true ∷ true ∷ true ∷ true ∷ []) (state_seen g t)
     ran =
@@ -217,6 +218,6 @@ code_idle_saved g s t idle id k w v v1 v2 v3 h = sym (table g t id) ∙ by (leb 
     by : (b : Bool) → leb w 1 ≡ b → sync_reqs_of (state_seen g t).machine id ≡ some State1
     by true e =
         let i = idle_view g s idle in
-        idle_saved g (state_seen g s) (state_seen g t) (ready_seen s) i.0 i.1 id k (slot_of w)
+        idle_saved g (state_seen g s) (state_seen g t) (ready_seen s) i.0 i.1 id k (is_second w)
         (subst (λ (c : Call). Trace g format limits (state_seen g s) (ledger.push_sync id ∷ ledger.commit_log k ∷ c ∷ ledger.superblock_written k ∷ []) (true ∷ true ∷ true ∷ true ∷ []) (state_seen g t)) (landing true e) ran)
     by false e = absurd (nonsense_refused g format limits ran.2.0 ran.2.2.0 (subst (λ (c : Call). Takes g format limits ran.2.0 ran.2.2.0 c) (landing false e) ran.2.2.1))

@@ -1,6 +1,6 @@
 -- What is alike in the store's steps that alter lent memory: one number decides; of a yes the store is the next one, lent memory what the step makes of
 -- it, and a step of the machine with the disk's own makes the event.
-use Rattle.std.specs.Prelude.{ℕ, ◌≡◌}
+use Rattle.std.specs.Prelude.{ℕ, ◌≡◌, Ok}
 use Rattle.std.proofs.Common.{sym, subst}
 use Rattle.laws.specs.Choice.{and_then_left, and_then_right}
 use Rattle.layout.specs.declared.Geometry.{Geometry}
@@ -14,7 +14,6 @@ use Rattle.history.specs.Ledger.{Call}
 use Rattle.history.specs.Statement.{Takes, Tied}
 use Rattle.machine.specs.Questions.{ask_machine}
 use Rattle.store.specs.declared.Store.{Store}
-use Rattle.store.specs.declared.StoreAnswer.TheVariants as answer
 use Rattle.store.specs.Store.{answered}
 use Rattle.store.specs.Lent.{Lent, machine_lent, ask_store}
 use Rattle.store.specs.Laws.Answers.{next_asked, asked_next}
@@ -26,7 +25,7 @@ module _ (g : Geometry) (l : Lent) (s : Store) where
   unfolding ask_store
   machine_asked e = and_then_left _ _ (and_then_right _ _ e)
 
-  pub answered_takes : (q : ℕ) (op : DiskOp) (next : Store) (l' after : Lent) (x : Call) (o : DiskOp) → (answered q op next s).answer ≡ answer.Next o → (q ≡ 0 → l' ≡ after)
+  pub answered_takes : (q : ℕ) (op : DiskOp) (next : Store) (l' after : Lent) (x : Call) (o : DiskOp) → (answered q op next s).answer ≡ Ok o → (q ≡ 0 → l' ≡ after)
       → (q ≡ 0 → Takes g format limits (seen g l s) (seen g after next) x)
       → Takes g format limits (seen g l s) (seen g l' (answered q op next s).store) x
   answered_takes q op next l' after x o e same t =

@@ -1,6 +1,7 @@
 -- What the disk of a joined store answers, its machine awaits: a NoOp there takes no answer. And a superblock write's answer is of the slot whose
 -- write has its id.
-use Rattle.std.specs.Prelude.{Bool, true, false, cond, not, ◌≡◌, refl, ◌⊎◌}
+use Rattle.std.specs.Prelude.{Bool, true, false, cond, not, ◌≡◌, refl, ◌⊎◌, None, Some}
+use Rattle.std.specs.declared.option.Option as code
 use Rattle.std.proofs.Common.{sym, ◌∙◌, ap, inl, inr, ⊎_elim, eq-eqb}
 use Rattle.std.proofs.Math.Option.{Option, none, some}
 use Rattle.laws.specs.Choice.{split_eq, false_true}
@@ -16,9 +17,7 @@ use Rattle.source.specs.JournalSystem as Y
 use Rattle.source.specs.Meets.{one_id, bind_read, new_write, awaited_superblock_reads, awaited_journal_reads, awaited_superblock_writes, awaited_journal_writes, Joined}
 use Rattle.source.specs.Departures.{Awaited}
 use Rattle.requests.specs.declared.SuperblockWrite.{SuperblockWrite}
-use Rattle.requests.specs.declared.SuperblockWrite.TheVariants as write
-use Rattle.requests.specs.declared.SuperblockWrites.{SuperblockWrites}
-use Rattle.requests.specs.Slots.{is_write, slot_of}
+use Rattle.requests.specs.Slots.{SuperblockWrites, is_write, slot_of}
 use Rattle.requests.specs.Laws.Pairs.{which_of}
 use Rattle.refine.specs.Disk.View.{write_in}
 
@@ -116,15 +115,15 @@ module _ (g : Geometry) (s : Y.Variables) (j : Joined g s) (d : D.Variables) (id
       ap (λ (x : Two (Option ReqWriteSuperblockId)). at x true) j.superblock_writes ∙ one_only s.machine a.write (sym p ∙ a.waiting)
 
 -- the slot that a call finds by the id
-write_has : (x : SuperblockWrite) (w : ReqWriteSuperblockId) (id : ReqId) → write_in x ≡ some w → id ≡ w.id → is_write x id ≡ true
+write_has : (x : code.Option SuperblockWrite) (w : ReqWriteSuperblockId) (id : ReqId) → write_in x ≡ some w → id ≡ w.id → is_write x id ≡ true
 unfolding is_write
-write_has (write.Writing k sb) w id e h = eq-eqb k id (ap (λ (n : ReqWriteSuperblockId). n.id) (same_value refl e) ∙ sym h)
-write_has write.NoWrite w id e h = none_some refl e
+write_has (Some k) w id e h = eq-eqb k.id id (ap (λ (n : ReqWriteSuperblockId). n.id) (same_value refl e) ∙ sym h)
+write_has None w id e h = none_some refl e
 
-write_lacks : (x : SuperblockWrite) (id : ReqId) → write_in x ≡ none → is_write x id ≡ false
+write_lacks : (x : code.Option SuperblockWrite) (id : ReqId) → write_in x ≡ none → is_write x id ≡ false
 unfolding is_write
-write_lacks (write.Writing k sb) id e = none_some e refl
-write_lacks write.NoWrite id e = refl
+write_lacks (Some k) id e = none_some e refl
+write_lacks None id e = refl
 
 pub slot_found : (w : SuperblockWrites) (which : Bool) (id : ReqId) (x : ReqWriteSuperblockId) → at (record { first = write_in w.first; second = write_in w.second }) which ≡ some x → id ≡ x.id
     → (which ≡ false → write_in w.second ≡ none) → slot_of w id ≡ which_of which

@@ -1,5 +1,5 @@
 -- Calls of a store at work that leave lent memory alone: the answer of a journal write, both commits and their answer, freeze, a location, and replay.
-use Rattle.std.specs.Prelude.{ℕ, ◌≡◌, List}
+use Rattle.std.specs.Prelude.{ℕ, ◌≡◌, List, Ok}
 use Rattle.std.proofs.Common.{sym, subst, ⊎_elim}
 use Rattle.laws.specs.Choice.{and_then_left, and_then_right}
 use Rattle.layout.specs.declared.Geometry.{Geometry}
@@ -20,7 +20,6 @@ use Rattle.machine.specs.declared.Machine.{Machine}
 use Rattle.machine.specs.Working.{write_back_journal_resp_op, write_back_journal_resp_machine, ask_advance_log_step, advance_log_op, advance_log_machine, ask_advance_location_step, advance_location_op, advance_location_machine, ask_write_back_superblock_resp_step, write_back_superblock_resp_op, write_back_superblock_resp_machine, ask_freeze_step, freeze_machine, ask_receive_frozen_loc_step, receive_frozen_loc_machine, ask_replay_given, ask_replay_step, replay_machine}
 use Rattle.requests.specs.Slots.{slot_of}
 use Rattle.store.specs.declared.Store.{Store}
-use Rattle.store.specs.declared.StoreAnswer.TheVariants as answer
 use Rattle.store.specs.Lent.{Lent, machine_lent, ask_store}
 use Rattle.store.specs.Steps.{journal_written, commit_log, commit_location, superblock_written, freeze, receive, replay}
 use Rattle.calls.specs.declared.calls.Step.TheVariants as step
@@ -44,7 +43,7 @@ replay_given_is m rbytes rlens brought sizes k e =
 
 module _ (g : Geometry) (l : Lent) (v : Given) (s : Store) (z : SizedStore s) (e : ask_store g l s ≡ 0) where
   -- WriteBackJournalResp: the machine awaits it, or nobody does
-  pub journal_written_takes : (id : ℕ) (o : DiskOp) → (journal_written g s id).answer ≡ answer.Next o
+  pub journal_written_takes : (id : ℕ) (o : DiskOp) → (journal_written g s id).answer ≡ Ok o
       → Takes g format limits (seen g l s) (seen g l (journal_written g s id).store) (call_of v (step.WriteBackJournalResp id))
   journal_written_takes id o h =
       both_takes g l s z e 0 (write_back_journal_resp_op id) (write_back_journal_resp_machine s.machine id) (ledger.journal_written id) o h tt
@@ -55,7 +54,7 @@ module _ (g : Geometry) (l : Lent) (v : Given) (s : Store) (z : SizedStore s) (e
       (journal_resp_clauses g (machine_lent l) s.machine m.machine.form id))
 
   -- WriteBackSuperblockReq_AdvanceLog, WriteBackSuperblockReq_AdvanceLocation
-  pub commit_log_takes : (id : ℕ) (o : DiskOp) → (commit_log g s id).answer ≡ answer.Next o
+  pub commit_log_takes : (id : ℕ) (o : DiskOp) → (commit_log g s id).answer ≡ Ok o
       → Takes g format limits (seen g l s) (seen g l (commit_log g s id).store) (call_of v (step.AdvanceLog id))
   commit_log_takes id o h =
       both_takes g l s z e (ask_advance_log_step g s.machine) (advance_log_op s.machine id) (advance_log_machine s.machine id) (ledger.commit_log id) o h tt
@@ -66,7 +65,7 @@ module _ (g : Geometry) (l : Lent) (v : Given) (s : Store) (z : SizedStore s) (e
         tied = Tied.tied_log;
       })
 
-  pub commit_location_takes : (id : ℕ) (o : DiskOp) → (commit_location g s id).answer ≡ answer.Next o
+  pub commit_location_takes : (id : ℕ) (o : DiskOp) → (commit_location g s id).answer ≡ Ok o
       → Takes g format limits (seen g l s) (seen g l (commit_location g s id).store) (call_of v (step.AdvanceLocation id))
   commit_location_takes id o h =
       both_takes g l s z e (ask_advance_location_step g s.machine) (advance_location_op g s.machine id) (advance_location_machine g s.machine id) (ledger.commit_location id) o h tt
@@ -78,7 +77,7 @@ module _ (g : Geometry) (l : Lent) (v : Given) (s : Store) (z : SizedStore s) (e
       })
 
   -- WriteBackSuperblockResp: a commit awaits it, or nobody does
-  pub superblock_written_takes : (id : ℕ) (o : DiskOp) → (superblock_written g s id).answer ≡ answer.Next o
+  pub superblock_written_takes : (id : ℕ) (o : DiskOp) → (superblock_written g s id).answer ≡ Ok o
       → Takes g format limits (seen g l s) (seen g l (superblock_written g s id).store) (call_of v (step.WriteBackSuperblockResp id))
   superblock_written_takes id o h =
       let which : ℕ = slot_of s.disk.superblockWrites id in
@@ -90,19 +89,19 @@ module _ (g : Geometry) (l : Lent) (v : Given) (s : Store) (z : SizedStore s) (e
       (superblock_resp_clauses g (machine_lent l) s.machine id which m.machine.form))
 
   -- Freeze, ReceiveFrozenLoc
-  pub freeze_takes : (o : DiskOp) → (freeze g s).answer ≡ answer.Next o → Takes g format limits (seen g l s) (seen g l (freeze g s).store) (call_of v step.Freeze)
+  pub freeze_takes : (o : DiskOp) → (freeze g s).answer ≡ Ok o → Takes g format limits (seen g l s) (seen g l (freeze g s).store) (call_of v step.Freeze)
   freeze_takes o h =
       both_takes g l s z e (ask_freeze_step s.machine) op.NoDiskOp (freeze_machine s.machine) ledger.freeze o h tt
       (λ m q d. record { step = Source FreezeStep; moves = freeze_clauses g (machine_lent l) s.machine m.machine.form q; tied = Tied.tied_freeze })
 
-  pub receive_takes : (loc : Location) (o : DiskOp) → (receive g s loc).answer ≡ answer.Next o
+  pub receive_takes : (loc : Location) (o : DiskOp) → (receive g s loc).answer ≡ Ok o
       → Takes g format limits (seen g l s) (seen g l (receive g s loc).store) (call_of v (step.ReceiveFrozenLoc loc))
   receive_takes loc o h =
       both_takes g l s z e (ask_receive_frozen_loc_step g s.machine loc) op.NoDiskOp (receive_frozen_loc_machine s.machine loc) (ledger.receive loc) o h tt
       (λ m q d. record { step = Source (ReceiveFrozenLocStep loc); moves = receive_clauses g (machine_lent l) s.machine loc q; tied = Tied.tied_receive })
 
   -- Replay: the entries that the call brings are there
-  pub replay_takes : (k : ℕ) (o : DiskOp) → (replay g s l.rbytes l.rlens v.brought v.sizes k).answer ≡ answer.Next o
+  pub replay_takes : (k : ℕ) (o : DiskOp) → (replay g s l.rbytes l.rlens v.brought v.sizes k).answer ≡ Ok o
       → Takes g format limits (seen g l s) (seen g l (replay g s l.rbytes l.rlens v.brought v.sizes k).store) (call_of v (step.Replay k))
   replay_takes k o h =
       both_takes g l s z e (ask_replay_step s.machine l.rbytes l.rlens v.brought v.sizes k) op.NoDiskOp

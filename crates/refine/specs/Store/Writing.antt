@@ -1,17 +1,16 @@
 -- WriteBackJournalReq: the range of the entries that are sent goes from pending memory into the ring of blocks, going round once at most, and the disk
 -- receives it as the machine sends it.
 use Prim.Native.Nat.{ℕ, ◌*◌, ◌≤◌}
-use Rattle.std.specs.Prelude.{◌≡◌, refl, List, length}
+use Rattle.std.specs.Prelude.{◌≡◌, List, length, Ok}
+use Rattle.std.specs.declared.option.Option as code
 use Rattle.std.proofs.Math.Path.{sym}
 use Rattle.std.proofs.Common.{◌∙◌, ap, subst, arith}
-use Rattle.std.proofs.Math.Option.{Option}
 use Rattle.laws.specs.Choice.{and_then, and_then_left, and_then_right, unless_done}
 use Rattle.laws.specs.Around.{clipped_around_fits}
+use Rattle.laws.specs.Optional.{option_of}
 use Rattle.layout.specs.declared.Geometry.{Geometry}
 use Rattle.interval.specs.declared.JournalInterval.{JournalInterval}
 use Rattle.interval.specs.Facts.{interval_facts}
-use Rattle.superblock.specs.declared.MaybeId.{MaybeId}
-use Rattle.superblock.specs.declared.MaybeId.TheVariants as maybe
 use Rattle.superblock.specs.declared.DiskOp.{DiskOp}
 use Rattle.journal.specs.Memory.{update_bytes}
 use Rattle.journal.specs.Cells.{blocks_in}
@@ -36,7 +35,6 @@ use Rattle.disk.specs.Next.{recv_write_journal_next}
 use Rattle.requests.specs.Laws.Receive.{recv_write_journal_asked}
 use Rattle.disk.specs.Laws.Memory.{asks_new_blocks}
 use Rattle.store.specs.declared.Store.{Store}
-use Rattle.store.specs.declared.StoreAnswer.TheVariants as answer
 use Rattle.store.specs.Store.{store}
 use Rattle.store.specs.Lent.{Lent, machine_lent, ask_store, with_pending, with_journal}
 use Rattle.store.specs.Steps.{ask_both, both, write_op, ask_write_journal, write_journal, written_interval, written_blocks, written_marks, written_lent}
@@ -44,20 +42,13 @@ use Rattle.calls.specs.declared.calls.Step.TheVariants as step
 use Rattle.calls.specs.Given.{Given}
 use Rattle.refine.specs.Disk.View.{disk_of}
 use Rattle.refine.specs.Disk.JournalWrites as disk
-use Rattle.refine.specs.Disk.JournalWrites.{id_in}
-use Rattle.refine.specs.Machine.ReadyView.{id_of}
 use Rattle.refine.specs.Machine.MachineRange.{sent_fits, sent_total, sent_count, range_front, encoded_blocks}
 use Rattle.refine.specs.Machine.MachineWork.{work_asked}
 use Rattle.refine.specs.Machine.MachineWriting as machine
 use Rattle.refine.specs.Store.Seen.{seen, SizedStore, StoreMet, store_met, call_of}
 use Rattle.refine.specs.Store.Taken.{answered_takes, machine_takes}
 
--- one second id
-pub same_id : (x : MaybeId) → id_in x ≡ id_of x
-same_id (maybe.Id id) = refl
-same_id maybe.NoId = refl
-
-module _ (g : Geometry) (l : Lent) (v : Given) (s : Store) (id1 : ℕ) (id2 : MaybeId) where
+module _ (g : Geometry) (l : Lent) (v : Given) (s : Store) (id1 : ℕ) (id2 : code.Option ℕ) where
   abbrev b : Bodies
   b = bodies_of l.lens s.machine
 
@@ -131,16 +122,16 @@ module _ (g : Geometry) (l : Lent) (v : Given) (s : Store) (id1 : ℕ) (id2 : Ma
           (sent_total g (machine_lent l) s.machine ready met.machine.form met.machine.meets)
           (omega (arith, f.start_in, size)) (omega (arith, holds, size)))
 
-      pub received : D.RecvWriteJournal g (seen g l s).disk (seen g after next).disk id1 (id_of id2) (record { start = at.start; journal = range })
+      pub received : D.RecvWriteJournal g (seen g l s).disk (seen g after next).disk id1 (option_of id2) (record { start = at.start; journal = range })
       received =
           subst
-          (λ (x : List ℕ × Option ℕ × JournalRange).
-          D.RecvWriteJournal g (seen g l s).disk (disk_of g x.0 after.marks next.disk) id1 x.1 (record { start = at.start; journal = x.2 }))
-          (λ i. (ring_is i, same_id id2 i, range_is i))
+          (λ (x : List ℕ × JournalRange).
+          D.RecvWriteJournal g (seen g l s).disk (disk_of g x.0 after.marks next.disk) id1 (option_of id2) (record { start = at.start; journal = x.1 }))
+          (λ i. (ring_is i, range_is i))
           (disk.write_clauses g s.disk id1 id2 at (encode es) l.blocks l.marks z.disk met.disk
           (asks_new_blocks g s.disk.journalWrites id1 id2 at (encode es) long d))
 
-  pub write_takes : (z : SizedStore s) → ask_store g l s ≡ 0 → (o : DiskOp) → (write_journal g s id1 id2 b).answer ≡ answer.Next o
+  pub write_takes : (z : SizedStore s) → ask_store g l s ≡ 0 → (o : DiskOp) → (write_journal g s id1 id2 b).answer ≡ Ok o
       → Takes g format limits (seen g l s) (seen g (written_lent g l s (ask_write_journal g s id1 id2 b) b) (write_journal g s id1 id2 b).store) (call_of v (step.WriteBackJournalReq id1 id2))
   unfolding both ask_both ask_write_journal
   write_takes z e o y =
@@ -153,6 +144,6 @@ module _ (g : Geometry) (l : Lent) (v : Given) (s : Store) (id1 : ℕ) (id2 : Ma
       let a = and_then_left q r h in
       let d = and_then_right q r h in
       machine_takes g l s z met (seen g after next) (call_of v (step.WriteBackJournalReq id1 id2))
-      (D.ReqWriteJournalOp id1 (id_of id2) (record { start = at.start; journal = range })) (Source (WriteBackJournalReqStep range)) tied_write
+      (D.ReqWriteJournalOp id1 (option_of id2) (record { start = at.start; journal = range })) (Source (WriteBackJournalReqStep range)) tied_write
       (machine.write_clauses g (machine_lent l) s.machine id1 id2 met.machine l.blocks met.disk.lent.blocks_right.size a)
       (received z met a d))

@@ -3,13 +3,8 @@ use Rattle.std.specs.Prelude.{ℕ, ◌≤◌, Bool, true, false, not, cond, ◌�
 use Rattle.std.proofs.Common.{arith, leb-true, le-leb}
 use Rattle.laws.specs.Choice.{ask_yes, ask_holds}
 use Rattle.laws.specs.Sets.{Two, at, put}
-use Rattle.superblock.specs.declared.MaybeSuperblock.{MaybeSuperblock}
-use Rattle.tables.specs.declared.IdTable.{IdTable}
-use Rattle.requests.specs.declared.Slots.{Slots}
-use Rattle.requests.specs.declared.SuperblockReads.{SuperblockReads}
-use Rattle.requests.specs.declared.SuperblockWrite.{SuperblockWrite}
-use Rattle.requests.specs.declared.SuperblockWrites.{SuperblockWrites}
-use Rattle.requests.specs.Slots.{ask_which, chosen, slot_at, put_slot, reads_at, put_reads, write_at, put_write}
+use Rattle.requests.specs.declared.BySlot.{BySlot}
+use Rattle.requests.specs.Slots.{ask_which, chosen, slot_at, put_slot}
 
 abbrev pub bit_of : ℕ → Bool
 bit_of which = not (eqb which 0)
@@ -37,14 +32,8 @@ unfolding ask_which
 asked_which which h = ask_holds 4 (leb which 1) (le-leb which 1 h)
 
 -- each pair
-abbrev pub slot_pair : Slots → Two MaybeSuperblock
+abbrev pub slot_pair : {A : Type 0} → BySlot A → Two A
 slot_pair s = record { first = s.first; second = s.second }
-
-abbrev pub read_pair : SuperblockReads → Two IdTable
-read_pair r = record { first = r.first; second = r.second }
-
-abbrev pub write_pair : SuperblockWrites → Two SuperblockWrite
-write_pair w = record { first = w.first; second = w.second }
 
 module _ {A : Type 0} (which : ℕ) (a b : A) where
   chosen_at : chosen which a b ≡ at (record { first = a; second = b }) (bit_of which)
@@ -61,27 +50,11 @@ module _ {A : Type 0} (which : ℕ) (a b : A) where
       go true = refl
       go false = refl
 
-module _ (which : ℕ) where
-  pub slot_at_is : (s : Slots) → slot_at s which ≡ at (slot_pair s) (bit_of which)
+module _ {A : Type 0} (which : ℕ) (s : BySlot A) where
+  pub slot_at_is : slot_at s which ≡ at (slot_pair s) (bit_of which)
   unfolding slot_at
-  slot_at_is s = chosen_at which s.first s.second
+  slot_at_is = chosen_at which s.first s.second
 
-  pub slot_put : (s : Slots) (x : MaybeSuperblock) → slot_pair (put_slot s which x) ≡ put (slot_pair s) (bit_of which) x
+  pub slot_put : (x : A) → slot_pair (put_slot s which x) ≡ put (slot_pair s) (bit_of which) x
   unfolding put_slot
-  slot_put s x = chosen_put which s.first s.second x
-
-  pub reads_at_is : (r : SuperblockReads) → reads_at r which ≡ at (read_pair r) (bit_of which)
-  unfolding reads_at
-  reads_at_is r = chosen_at which r.first r.second
-
-  pub reads_put : (r : SuperblockReads) (x : IdTable) → read_pair (put_reads r which x) ≡ put (read_pair r) (bit_of which) x
-  unfolding put_reads
-  reads_put r x = chosen_put which r.first r.second x
-
-  pub write_at_is : (w : SuperblockWrites) → write_at w which ≡ at (write_pair w) (bit_of which)
-  unfolding write_at
-  write_at_is w = chosen_at which w.first w.second
-
-  pub write_put : (w : SuperblockWrites) (x : SuperblockWrite) → write_pair (put_write w which x) ≡ put (write_pair w) (bit_of which) x
-  unfolding put_write
-  write_put w x = chosen_put which w.first w.second x
+  slot_put x = chosen_put which s.first s.second x

@@ -1,4 +1,6 @@
 -- Requests: what a yes to the questions of each tells, as facts, and back; question 8 at its bound; and the disk after each, as an equation.
+use Rattle.std.specs.Prelude.{None, Some}
+use Rattle.std.specs.declared.option.Option as code
 use Rattle.std.specs.Prelude.{ℕ, ◌-◌, ◌≤◌, ◌<◌, Bool, true, false, ◌≡◌, refl, eqb, take}
 use Rattle.std.proofs.Math.Bool.{not}
 use Rattle.std.proofs.Math.Path.{sym}
@@ -8,22 +10,17 @@ use Rattle.laws.specs.Choice.{also, also_left, also_right, also_both, either, ei
 use Rattle.laws.specs.Sets.{ids_of}
 use Rattle.layout.specs.declared.Geometry.{Geometry}
 use Rattle.interval.specs.declared.JournalInterval.{JournalInterval}
-use Rattle.interval.specs.Answer.{maybe_interval}
+use Rattle.laws.specs.Optional.{optional}
 use Rattle.interval.specs.Interval.{interval, valid_journal_interval, contiguous_journal_interval}
 use Rattle.interval.proofs.Laws.{parts_wrapped}
 use Rattle.superblock.specs.declared.Superblock.{Superblock}
-use Rattle.superblock.specs.declared.MaybeId.{MaybeId}
-use Rattle.superblock.specs.declared.MaybeId.TheVariants as maybe
 use Rattle.tables.specs.declared.IntervalTable.{IntervalTable}
 use Rattle.tables.specs.Rows.{has_room, ask_add}
 use Rattle.tables.specs.IdTable.{id_set, added_id}
 use Rattle.tables.specs.IntervalTable.{added_interval}
 use Rattle.tables.proofs.Laws.Counts.{no_room, add_full}
-use Rattle.requests.specs.declared.SuperblockReads.{SuperblockReads}
-use Rattle.requests.specs.declared.SuperblockWrite.TheVariants as write
-use Rattle.requests.specs.declared.SuperblockWrites.{SuperblockWrites}
+use Rattle.requests.specs.Slots.{SuperblockReads, SuperblockWrites, writing, ask_which, slot_at, is_write, put_slot}
 use Rattle.requests.specs.Limits.{most_superblock_reads, most_journal_reads, most_journal_writes}
-use Rattle.requests.specs.Slots.{ask_which, reads_at, is_write, put_reads}
 use Rattle.requests.specs.Receive.{ask_recv_read_superblock, ask_recv_read_journal, ask_recv_write_superblock, is_new, ask_new_ids, rows_for, second_fits, ask_rows, ask_recv_write_journal, added_part, write_received, read_received}
 use Rattle.requests.specs.Laws.Pairs.{which_asked, asked_which}
 
@@ -33,14 +30,14 @@ pub record RecvReadSuperblockAsked (r : SuperblockReads) (which id : ℕ) : Type
   pub which_in : which ≤ 1
   pub new1 : id_set r.first id ≡ false
   pub new2 : id_set r.second id ≡ false
-  pub room : has_room most_superblock_reads (reads_at r which).count 1 (reads_at r which).ids ≡ true
+  pub room : has_room most_superblock_reads (slot_at r which).count 1 (slot_at r which).ids ≡ true
 
 module _ (r : SuperblockReads) (which id : ℕ) where
   waits : Bool
   waits = either (id_set r.first id) (id_set r.second id)
 
   fits : Bool
-  fits = has_room most_superblock_reads (reads_at r which).count 1 (reads_at r which).ids
+  fits = has_room most_superblock_reads (slot_at r which).count 1 (slot_at r which).ids
 
   pub recv_read_superblock_asked : ask_recv_read_superblock r which id ≡ 0 → RecvReadSuperblockAsked r which id
   unfolding ask_recv_read_superblock waits fits
@@ -64,13 +61,13 @@ module _ (r : SuperblockReads) (which id : ℕ) where
       and_then_both (ask_which which) (and_then (ask 5 (not waits)) (ask 8 fits)) (asked_which which a.which_in)
       (and_then_both (ask 5 (not waits)) (ask 8 fits) (asks_new a.new1 a.new2) (ask_holds 8 fits a.room))
 
-  pub recv_read_superblock_full : which ≤ 1 → id_set r.first id ≡ false → id_set r.second id ≡ false → most_superblock_reads ≤ (reads_at r which).count
+  pub recv_read_superblock_full : which ≤ 1 → id_set r.first id ≡ false → id_set r.second id ≡ false → most_superblock_reads ≤ (slot_at r which).count
       → ask_recv_read_superblock r which id ≡ 8
   unfolding ask_recv_read_superblock waits fits
   recv_read_superblock_full h p q c =
       and_then_done (ask_which which) (and_then (ask 5 (not waits)) (ask 8 fits)) (asked_which which h)
       ∙ and_then_done (ask 5 (not waits)) (ask 8 fits) (asks_new p q)
-      ∙ ask_fails 8 fits (no_room most_superblock_reads (reads_at r which).count (reads_at r which).ids 1 (omega arith))
+      ∙ ask_fails 8 fits (no_room most_superblock_reads (slot_at r which).count (slot_at r which).ids 1 (omega arith))
 
 -- RecvReadJournal
 
@@ -129,28 +126,28 @@ module _ (w : SuperblockWrites) (which id : ℕ) where
       (ask_holds 5 (not in_flight_is) (ap not (either_neither (is_write w.first id) (is_write w.second id) a.new1 a.new2)))
 
 -- a write with another id, and none
-pub other_write : (k id : ℕ) (s : Superblock) → is_write (write.Writing k s) id ≡ false → k ≡ id → ⊥
+pub other_write : (k id : ℕ) (s : Superblock) → is_write (writing k s) id ≡ false → k ≡ id → ⊥
 unfolding is_write
 other_write k id s e = eqb-false k id e
 
-pub write_other : (k id : ℕ) (s : Superblock) → (k ≡ id → ⊥) → is_write (write.Writing k s) id ≡ false
+pub write_other : (k id : ℕ) (s : Superblock) → (k ≡ id → ⊥) → is_write (writing k s) id ≡ false
 unfolding is_write
 write_other k id s h = ne_eqb k id h
 
-pub no_write : (id : ℕ) → is_write write.NoWrite id ≡ false
+pub no_write : (id : ℕ) → is_write None id ≡ false
 unfolding is_write
 no_write id = refl
 
 -- RecvWriteJournal
 
-pub record RecvWriteJournalAsked (g : Geometry) (t : IntervalTable) (id1 : ℕ) (id2 : MaybeId) (v : JournalInterval) : Type 0 where
+pub record RecvWriteJournalAsked (g : Geometry) (t : IntervalTable) (id1 : ℕ) (id2 : code.Option ℕ) (v : JournalInterval) : Type 0 where
   pub valid : valid_journal_interval g v ≡ true
   pub new1 : ids_of (take t.count t.ids) id1 ≡ false
   pub new2 : is_new t id2 ≡ true
   pub room : has_room most_journal_writes t.count (rows_for (contiguous_journal_interval g v)) t.ids ≡ true
   pub second : second_fits (contiguous_journal_interval g v) id1 id2 ≡ true
 
-module _ (g : Geometry) (t : IntervalTable) (id1 : ℕ) (id2 : MaybeId) (v : JournalInterval) where
+module _ (g : Geometry) (t : IntervalTable) (id1 : ℕ) (id2 : code.Option ℕ) (v : JournalInterval) where
   new_ids : Bool
   new_ids = also (not (ids_of (take t.count t.ids) id1)) (is_new t id2)
 
@@ -199,34 +196,34 @@ module _ (g : Geometry) (t : IntervalTable) (id1 : ℕ) (id2 : MaybeId) (v : Jou
       ∙ full
 
 -- a second id that is new
-pub second_new : (t : IntervalTable) (id : ℕ) → is_new t (maybe.Id id) ≡ true → ids_of (take t.count t.ids) id ≡ false
+pub second_new : (t : IntervalTable) (id : ℕ) → is_new t (Some id) ≡ true → ids_of (take t.count t.ids) id ≡ false
 unfolding is_new
 second_new t id e = not_true (ids_of (take t.count t.ids) id) e
 
-pub new_second : (t : IntervalTable) (id : ℕ) → ids_of (take t.count t.ids) id ≡ false → is_new t (maybe.Id id) ≡ true
+pub new_second : (t : IntervalTable) (id : ℕ) → ids_of (take t.count t.ids) id ≡ false → is_new t (Some id) ≡ true
 unfolding is_new
 new_second t id e = ap not e
 
-pub new_none : (t : IntervalTable) → is_new t maybe.NoId ≡ true
+pub new_none : (t : IntervalTable) → is_new t None ≡ true
 unfolding is_new
 new_none t = refl
 
 -- a second id exactly where the write passes the end, and unlike the first
-pub straight_one : (id1 : ℕ) (id2 : MaybeId) → second_fits true id1 id2 ≡ true → id2 ≡ maybe.NoId
+pub straight_one : (id1 : ℕ) (id2 : code.Option ℕ) → second_fits true id1 id2 ≡ true → id2 ≡ None
 unfolding second_fits also
-straight_one id1 (maybe.Id id) e = false_true e
-straight_one id1 maybe.NoId e = refl
+straight_one id1 (Some id) e = false_true e
+straight_one id1 None e = refl
 
-pub one_straight : (id1 : ℕ) → second_fits true id1 maybe.NoId ≡ true
+pub one_straight : (id1 : ℕ) → second_fits true id1 None ≡ true
 unfolding second_fits
 one_straight id1 = refl
 
-pub wrapped_two : (id1 : ℕ) (id2 : MaybeId) → second_fits false id1 id2 ≡ true → (id : ℕ) × (id2 ≡ maybe.Id id) × (id ≡ id1 → ⊥)
+pub wrapped_two : (id1 : ℕ) (id2 : code.Option ℕ) → second_fits false id1 id2 ≡ true → (id : ℕ) × (id2 ≡ Some id) × (id ≡ id1 → ⊥)
 unfolding second_fits also
-wrapped_two id1 (maybe.Id id) e = (id, refl, eqb-false id id1 (not_true (eqb id id1) e))
-wrapped_two id1 maybe.NoId e = false_true e
+wrapped_two id1 (Some id) e = (id, refl, eqb-false id id1 (not_true (eqb id id1) e))
+wrapped_two id1 None e = false_true e
 
-pub two_wrapped : (id1 id : ℕ) → (id ≡ id1 → ⊥) → second_fits false id1 (maybe.Id id) ≡ true
+pub two_wrapped : (id1 id : ℕ) → (id ≡ id1 → ⊥) → second_fits false id1 (Some id) ≡ true
 unfolding second_fits also
 two_wrapped id1 id h = ap not (ne_eqb id id1 h)
 
@@ -240,19 +237,19 @@ unfolding rows_for
 rows_wrapped = refl
 
 -- the rows: the interval, or up to the ring's end and the rest
-pub write_straight : (g : Geometry) (t : IntervalTable) (id1 : ℕ) (v : JournalInterval) → write_received g t id1 maybe.NoId v ≡ added_interval t id1 v
+pub write_straight : (g : Geometry) (t : IntervalTable) (id1 : ℕ) (v : JournalInterval) → write_received g t id1 None v ≡ added_interval t id1 v
 unfolding write_received
 write_straight g t id1 v = refl
 
 pub write_wrapped : (g : Geometry) (t : IntervalTable) (id1 id : ℕ) (v : JournalInterval) → g.blocks - v.start < v.len
-    → write_received g t id1 (maybe.Id id) v
+    → write_received g t id1 (Some id) v
     ≡ added_interval (added_interval t id1 (interval v.start (g.blocks - v.start))) id (interval 0 (v.len - (g.blocks - v.start)))
 unfolding write_received added_part
 write_wrapped g t id1 id v h =
     let p = parts_wrapped g v.start v.len h in
-    λ i. added_part (added_part t id1 (maybe_interval (p.front_is i))) id (maybe_interval (p.back_is i))
+    λ i. added_part (added_part t id1 (optional (p.front_is i))) id (optional (p.back_is i))
 
 -- the reads with one more
-pub read_received_is : (r : SuperblockReads) (which id : ℕ) → read_received r which id ≡ put_reads r which (added_id (reads_at r which) id)
+pub read_received_is : (r : SuperblockReads) (which id : ℕ) → read_received r which id ≡ put_slot r which (added_id (slot_at r which) id)
 unfolding read_received
 read_received_is r which id = refl

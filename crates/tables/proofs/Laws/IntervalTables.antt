@@ -1,9 +1,8 @@
--- A table of intervals: RowTables has its laws as a map; here are its sizes, the answer for an id, the test of its intervals, and that it
+-- A table of intervals: RowTables has its laws as a map; here are its sizes, the test of its intervals, and that it
 -- holds the same_ids ids as a table of ids.
 use Rattle.std.specs.Prelude.{ℕ, ◌<◌, true, ◌≡◌, refl, length, take, get_or}
 use Rattle.std.proofs.Common.{sym, ◌∙◌, ap, subst, arith}
-use Rattle.std.proofs.Math.Option.{Option, none, some}
-use Rattle.laws.specs.Choice.{ruin}
+use Rattle.std.proofs.Math.Option.{none}
 use Rattle.laws.specs.Maps.{Values, values_bind}
 use Rattle.laws.specs.Sets.{Map, no_keys, bind, unbind, keys, map_of}
 use Rattle.layout.specs.declared.Geometry.{Geometry}
@@ -12,10 +11,9 @@ use Rattle.interval.specs.Interval.{interval, contiguous_journal_interval}
 use Rattle.interval.specs.Facts.{ContiguousJournalInterval, contiguous_facts, facts_contiguous}
 use Rattle.tables.specs.declared.IdTable.{IdTable}
 use Rattle.tables.specs.declared.IntervalTable.{IntervalTable}
-use Rattle.tables.specs.declared.Held.TheVariants as held
 use Rattle.tables.specs.Rows.{place_of, Counted, has_room, same_ids}
 use Rattle.tables.specs.IdTable.{id_set}
-use Rattle.tables.specs.IntervalTable.{interval_rows, interval_map, no_intervals, SizedIntervals, valid_intervals, held_of, added_interval, removed_interval}
+use Rattle.tables.specs.IntervalTable.{interval_rows, interval_map, no_intervals, SizedIntervals, valid_intervals, added_interval, removed_interval}
 use Rattle.tables.proofs.Laws.Counts.{Addable, room_array}
 use Rattle.tables.proofs.Laws.Places.{same_sets, sets_same}
 use Rattle.tables.proofs.Laws.RowTables.{Level, rows_keys, rows_new, rows_addable, rows_second, rows_added, rows_removed, rows_left, rows_removed_values, rows_added_ok, rows_removed_ok, rows_values, values_rows, added_ids_long, added_values_long, removed_ids_long, removed_values_long}
@@ -27,15 +25,6 @@ intervals_empty = refl
 
 pub sized_no_intervals : SizedIntervals no_intervals
 sized_no_intervals = record { ids_long = refl; intervals_long = refl }
-
--- the answer for an id is the map's
-pub held_some : (o : Option JournalInterval) (v : JournalInterval) → held_of o ≡ held.Is v → o ≡ some v
-held_some none v e = ruin (cc)
-held_some (some u) v e = cc
-
-pub held_none : (o : Option JournalInterval) → held_of o ≡ held.Nothing → o ≡ none
-held_none none e = refl
-held_none (some u) e = ruin (cc)
 
 module _ (t : IntervalTable) where
   -- sizes, kept

@@ -1,13 +1,16 @@
--- Laws of ids in a list: the place of an id, the turns of the loops that look for one and that compare all, and the tests as facts.
+-- Laws of ids in a list: the place of an id, the turns of the loop that compares all, and the tests as facts.
 use Prim.Native.Nat.{ℕ, zero, suc, ◌+◌, ◌-◌, ◌≤◌, ◌<◌, min}
 use Rattle.std.specs.Prelude.{Bool, true, ◌≡◌, refl, ltb, eqb, length, take, drop, get_or}
-use Rattle.std.proofs.Math.Bool.{false, cond}
-use Rattle.std.proofs.Common.{sym, ◌∙◌, zero-add, length-take, get_or-take, lt-ltb, le-ltb, ltb-true, eq-eqb, ne_eqb}
+use Rattle.std.proofs.Math.Bool.{false, cond, not}
+use Rattle.std.specs.List.{position, position_or_len}
+use Rattle.std.specs.Prelude.{unwrap_or}
+use Rattle.std.specs.declared.option.Option as code
+use Rattle.std.proofs.Common.{sym, ◌∙◌, length-take, get_or-take, lt-ltb, le-ltb, ltb-true, eq-eqb, ne_eqb}
 use Rattle.std.proofs.Math.Path.{ap}
 use mathlib.Core.List.{List, [], ◌∷◌}
 use Rattle.std.proofs.Math.Option.{some, none}
 use native.Mathlib.Omega.{arith}
-use Rattle.laws.specs.Choice.{leb_same, split_eq, also_left, also_right, also_both, true_false, false_true}
+use Rattle.laws.specs.Choice.{leb_same, by_ltb, split_eq, also_left, also_right, also_both, true_false, false_true}
 use Rattle.laws.specs.Fold.{every_at, every_all}
 use Rattle.laws.specs.Maps.{map_of_none}
 use Rattle.laws.specs.Part.{drop_step, drop_end, tail_is}
@@ -23,25 +26,30 @@ place_there : (id k : ℕ) (ks : List ℕ) → (k ≡ id → ⊥) → place_of i
 unfolding place_of
 place_there id k ks n = ap (λ (b : Bool). cond b 0 (suc (place_of id ks))) (ne_eqb k id n)
 
--- the loop that looks for an id: it is here, it isn't, nothing is left
-module _ (ids : List ℕ) (id i : ℕ) where
-  pub place_start : place_of id ids ≡ 0 + place_of id ids
-  place_start = sym (zero-add (place_of id ids))
+-- the place that the library finds, or the length
+place_prefix : (id : ℕ) (ks : List ℕ) → position_or_len (λ (k : ℕ). eqb k id) ks ≡ place_of id ks
+unfolding place_of
+place_prefix id [] = refl
+place_prefix id (k ∷ ks) = go (eqb k id) (place_prefix id ks)
+  where
+    go : (b : Bool) → position_or_len (λ (j : ℕ). eqb j id) ks ≡ place_of id ks → cond (not b) (1 + position_or_len (λ (j : ℕ). eqb j id) ks) 0 ≡ cond b 0 (suc (place_of id ks))
+    go true e = refl
+    go false e = omega (arith, e)
 
-  pub place_hit : i < length ids → get_or ids i 0 ≡ id → place_of id ids ≡ i + place_of id (drop i ids) → i ≡ place_of id ids
-  place_hit h e p =
-      let q : place_of id (drop i ids) ≡ 0 = ap (place_of id) (drop_step ids i 0 h) ∙ place_here id (get_or ids i 0) (drop (i + 1) ids) e in
-      omega arith
+place_most : (id : ℕ) (ks : List ℕ) → place_of id ks ≤ length ks
+unfolding place_of
+place_most id [] = omega arith
+place_most id (k ∷ ks) = go (eqb k id) (place_most id ks)
+  where
+    go : (b : Bool) → place_of id ks ≤ length ks → cond b 0 (suc (place_of id ks)) ≤ suc (length ks)
+    go true e = omega arith
+    go false e = omega (arith, e)
 
-  pub place_turn : i < length ids → (get_or ids i 0 ≡ id → ⊥) → place_of id ids ≡ i + place_of id (drop i ids) → place_of id ids ≡ i + 1 + place_of id (drop (i + 1) ids)
-  place_turn h n p =
-      let q : place_of id (drop i ids) ≡ suc (place_of id (drop (i + 1) ids)) =
-      ap (place_of id) (drop_step ids i 0 h) ∙ place_there id (get_or ids i 0) (drop (i + 1) ids) n in
-      omega arith
-
-  pub place_end : length ids ≤ i → place_of id ids ≡ i + place_of id (drop i ids) → i ≡ place_of id ids
-  unfolding place_of
-  place_end h p = let q : place_of id (drop i ids) ≡ 0 = ap (place_of id) (drop_end ids i h) in omega arith
+pub place_found : (id : ℕ) (ks : List ℕ) → unwrap_or (position (λ (k : ℕ). eqb k id) ks) (length ks) ≡ place_of id ks
+place_found id ks =
+    by_ltb (λ (o : code.Option ℕ). unwrap_or o (length ks) ≡ place_of id ks) (position_or_len (λ (k : ℕ). eqb k id) ks) (length ks) _ _
+    (λ h. place_prefix id ks)
+    (λ h. omega (arith, h, place_prefix id ks, place_most id ks))
 
 -- an id stands at a place within the list exactly where it is there
 pub place_in : (id : ℕ) (ks : List ℕ) → ltb (place_of id ks) (length ks) ≡ ids_of ks id

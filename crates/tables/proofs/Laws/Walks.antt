@@ -1,28 +1,12 @@
--- The walks over values: is each of the first n of an array as it should be, and every element of an array changed in place, over any
--- element; and which numbers are states. Assumes nothing.
-use Rattle.std.specs.Prelude.{ℕ, ◌+◌, ◌≤◌, ◌<◌, min, Bool, true, false, ◌≡◌, List, [], ◌∷◌, ◌++◌, map, length, take, drop, get_or, set, leb}
-use Rattle.std.proofs.Common.{sym, ◌∙◌, ap, append_assoc, append-nil, arith, drop_of_length-le, get_or-take, length-take-le, take_all, le-leb}
+-- The walks over values: a fact about the first n of an array, and every element of an array changed in place, over any element; and
+-- which numbers are states. Assumes nothing.
+use Rattle.std.specs.Prelude.{ℕ, ◌+◌, ◌≤◌, ◌<◌, min, true, false, ◌≡◌, List, [], ◌∷◌, ◌++◌, map, length, take, drop, get_or, set, leb}
+use Rattle.std.proofs.Common.{sym, ◌∙◌, ap, append_assoc, append-nil, arith, drop_of_length-le, length-take-le, take_all, le-leb}
 use Rattle.std.proofs.lemmas.List.{map-append, length-map, get_or_at, set_at}
 use Rattle.std.proofs.lemmas.Bool.{lt-leb}
 use Rattle.laws.specs.Choice.{also, also_both, also_false}
-use Rattle.laws.specs.Fold.{every, every_no, every_yes, every_done}
 use Rattle.laws.specs.Part.{drop_step, take_step, take_min}
 use Rattle.tables.specs.SyncTable.{ok_state}
-
-module _ {A : Type 0} (p : A → Bool) (xs : List A) (n i : ℕ) (h : n ≤ length xs) where
-  pub front_no : (d : A) → i < n → every p (drop i (take n xs)) ≡ every p (take n xs) → p (get_or xs i d) ≡ false → false ≡ every p (take n xs)
-  front_no d k e q =
-      let l = length-take-le n xs h in
-      every_no p (take n xs) i d (omega arith) e (ap p (get_or-take n xs i d k) ∙ q)
-
-  pub front_yes : (d : A) → i < n → every p (drop i (take n xs)) ≡ every p (take n xs) → p (get_or xs i d) ≡ true
-      → every p (drop (i + 1) (take n xs)) ≡ every p (take n xs)
-  front_yes d k e q =
-      let l = length-take-le n xs h in
-      every_yes p (take n xs) i d (omega arith) e (ap p (get_or-take n xs i d k) ∙ q)
-
-  pub front_done : n ≤ i → every p (drop i (take n xs)) ≡ every p (take n xs) → true ≡ every p (take n xs)
-  front_done k e = let l = length-take-le n xs h in every_done p (take n xs) i (omega arith) e
 
 -- a fact about the first `count` of an array, of which the code took as many as there are
 pub cut_front : {A B : Type 0} (f : List A → B) (xs : List A) (count n size : ℕ) → length xs ≡ size → n ≡ min count size → f (take n xs) ≡ f (take count xs)

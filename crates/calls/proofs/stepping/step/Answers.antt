@@ -1,14 +1,26 @@
-use Rattle.calls.specs.Laws.Asked.{picture_refused, state_refused, step_taken}
+use mathlib.Core.Path.{sym, ◌∙◌}
+use Rattle.machine.specs.Questions.{bodies_of}
+use Rattle.store.specs.Lent.{lent}
+use Rattle.calls.specs.Given.{given}
+use Rattle.calls.specs.Step.{ask_step}
+use Rattle.calls.specs.Laws.Asked.{no_step, step_taken}
 use Rattle.calls.proofs.stepping.step.Goals as goal
 
-pub returns-then-q-ne0 : goal.returns-then-q-ne0
-returns-then-q-ne0 c =
-    let all = picture_refused _ _ _ _ _ _ c.ask_picture-q.ensures _ c.if-q-ne0.true c.refused.ensures in record { value = all.0; bytes_after = all.1.0; lens_after = all.1.1.0; pieces_after = all.1.1.1.0; rbytes_after = all.1.1.1.1.0; rlens_after = all.1.1.1.1.1.0; blocks_after = all.1.1.1.1.1.1.0; marks_after = all.1.1.1.1.1.1.1 }
+pub returns-in-Err : goal.returns-in-Err
+unfolding ask_step
+returns-in-Err c =
+    let a = c.args in
+    let l = lent a.bytes.now a.lens.now a.pieces.now a.rbytes.now a.rlens.now a.blocks.now a.marks.now in
+    let v = given a.brought.now a.sizes.now a.picture.now a.pictured.now in
+    let all = no_step a.g l v a.s a.x (bodies_of a.lens.now a.s.machine) _ _ (sym c.ask.ensures ∙ c.in-Err.is) c.refused.ensures in
+    record { value = all.0; bytes_after = all.1.0; lens_after = all.1.1.0; pieces_after = all.1.1.1.0; rbytes_after = all.1.1.1.1.0; rlens_after = all.1.1.1.1.1.0; blocks_after = all.1.1.1.1.1.1.0; marks_after = all.1.1.1.1.1.1.1 }
 
-pub returns-in-Refused : goal.returns-in-Refused
-returns-in-Refused c =
-    let all = state_refused _ _ _ _ _ _ c.ask_picture-q.ensures c.if-q-ne0.false _ c.ask-a.ensures _ _ c.in-Refused.is c.refused-in-Refused.ensures in record { value = all.0; bytes_after = all.1.0; lens_after = all.1.1.0; pieces_after = all.1.1.1.0; rbytes_after = all.1.1.1.1.0; rlens_after = all.1.1.1.1.1.0; blocks_after = all.1.1.1.1.1.1.0; marks_after = all.1.1.1.1.1.1.1 }
-
-pub returns-in-Held : goal.returns-in-Held
-returns-in-Held c =
-    let all = step_taken _ _ _ _ _ _ c.ask_picture-q.ensures c.if-q-ne0.false _ c.ask-a.ensures _ _ _ _ _ _ _ _ _ c.in-Held.is (c.step_asked.ensures.value, (c.step_asked.ensures.bytes_after, (c.step_asked.ensures.lens_after, (c.step_asked.ensures.pieces_after, (c.step_asked.ensures.rbytes_after, (c.step_asked.ensures.rlens_after, (c.step_asked.ensures.blocks_after, c.step_asked.ensures.marks_after))))))) in record { value = all.0; bytes_after = all.1.0; lens_after = all.1.1.0; pieces_after = all.1.1.1.0; rbytes_after = all.1.1.1.1.0; rlens_after = all.1.1.1.1.1.0; blocks_after = all.1.1.1.1.1.1.0; marks_after = all.1.1.1.1.1.1.1 }
+pub returns-in-Ok : goal.returns-in-Ok
+unfolding ask_step
+returns-in-Ok c =
+    let a = c.args in
+    let l = lent a.bytes.now a.lens.now a.pieces.now a.rbytes.now a.rlens.now a.blocks.now a.marks.now in
+    let v = given a.brought.now a.sizes.now a.picture.now a.pictured.now in
+    let e = c.step_asked.ensures in
+    let all = step_taken a.g l v a.s a.x _ _ _ _ _ _ _ _ _ (sym c.ask.ensures ∙ c.in-Ok.is) (e.value, (e.bytes_after, (e.lens_after, (e.pieces_after, (e.rbytes_after, (e.rlens_after, (e.blocks_after, e.marks_after))))))) in
+    record { value = all.0; bytes_after = all.1.0; lens_after = all.1.1.0; pieces_after = all.1.1.1.0; rbytes_after = all.1.1.1.1.0; rlens_after = all.1.1.1.1.1.0; blocks_after = all.1.1.1.1.1.1.0; marks_after = all.1.1.1.1.1.1.1 }

@@ -15,4 +15,4 @@ returns c =
     let a = c.args in
     c.read_sector.ensures
     ∙ ap read_sector
-    (part_cut a.disk.now a.at sector_size c.lesser-place.result c.lesser-size.result (c.lesser-place.result + c.lesser-size.result - c.lesser-place.result) c.lesser-place.ensures c.lesser-size.ensures (omega arith))
+    (part_cut a.disk.now a.at sector_size c.min-place.result c.min-size.result (c.min-place.result + c.min-size.result - c.min-place.result) c.min-place.ensures c.min-size.ensures (omega arith))

@@ -1,19 +1,14 @@
-use Rattle.image.proofs.FoundLaws.{record_refused, lent_refused, record_found, lent_found}
-use Rattle.image.specs.Image.{lent}
-use mathlib.Core.Path.{◌∙◌}
+use Rattle.image.proofs.FoundLaws.{found_refused, found_held}
 use Rattle.image.proofs.recording.record_chosen.Goals as goal
 
-pub returns-then-no-ne0 : goal.returns-then-no-ne0
-returns-then-no-ne0 c =
-    let a = c.args in
-    let l = lent a.pieces.now a.rbytes.now a.rlens.now in record { value = record_refused a.g a.disk.now a.c l c.if-no-ne0.true; lent_after = lent_refused a.g a.disk.now a.c l c.if-no-ne0.true }
-
-pub fetch-found-requires : goal.fetch-found-requires
-fetch-found-requires c = c.requires.may c.if-no-ne0.false
+pub returns-in_err-found : goal.returns-in_err-found
+returns-in_err-found c = record {
+  value = found_refused c.args.g c.args.disk.now c.args.c _ c.fetch.ensures.value _ _ c.in_err-found.ensures c.from_residual.ensures.1;
+  lent_after = c.fetch.ensures.lent_after;
+}
 
 pub returns : goal.returns
-returns c =
-    let a = c.args in
-    let l = lent a.pieces.now a.rbytes.now a.rlens.now in
-    let h = c.fetch-found.ensures in
-    let k = c.if-no-ne0.false in record { value = c.held.ensures ∙ record_found a.g a.disk.now a.c l k _ c.fetch-found.ensures.value; lent_after = lent_found a.g a.disk.now a.c l k _ c.fetch-found.ensures.lent_after }
+returns c = record {
+  value = found_held c.args.g c.args.disk.now c.args.c _ c.fetch.ensures.value _ c.in_ok-found.ensures;
+  lent_after = c.fetch.ensures.lent_after;
+}

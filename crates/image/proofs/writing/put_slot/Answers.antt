@@ -6,15 +6,15 @@ use Prim.Native.Nat.{ℕ}
 use mathlib.Core.Path.{sym, ◌∙◌, ap}
 use Rattle.image.proofs.writing.put_slot.Goals as goal
 
-pub returns-in-Holds : goal.returns-in-Holds
-returns-in-Holds c =
+pub returns-in-Some : goal.returns-in-Some
+returns-in-Some c =
     let a = c.args in
-    c.write_bytes.ensures
+    c.write.ensures
     ∙ ap (clipped a.disk.now a.at)
-    (held_put _ (replicate 4096 0) (length-replicate {A = ℕ} 4096 0) c.write_sector-q.ensures.sector_after
-    ∙ ap slot_bytes (sym c.in-Holds.is))
+    (held_put _ (replicate 4096 0) (length-replicate {A = ℕ} 4096 0) c.write_sector-written.ensures.sector_after
+    ∙ ap slot_bytes (sym c.in-Some.is))
 
-pub returns-in-Empty : goal.returns-in-Empty
-returns-in-Empty c =
+pub returns-in-None : goal.returns-in-None
+returns-in-None c =
     let a = c.args in
-    c.write_bytes-in-Empty.ensures ∙ ap (clipped a.disk.now a.at) (empty_put ∙ ap slot_bytes (sym c.in-Empty.is))
+    c.write-in-None.ensures ∙ ap (clipped a.disk.now a.at) (empty_put ∙ ap slot_bytes (sym c.in-None.is))

@@ -1,12 +1,8 @@
-use mathlib.Core.Path.{sym, ◌∙◌}
-use Rattle.laws.specs.Choice.{refused_kept}
+use Rattle.refusal.specs.Refusal.{yes}
 use Rattle.image.specs.Written.{written_runs}
 use Rattle.image.proofs.writing.write_image.Goals as goal
 
-pub returns-then-q-ne0 : goal.returns-then-q-ne0
-returns-then-q-ne0 c = record { value = c.ask_image-q.ensures; disk_after = refused_kept c.ask_image-q.result _ _ _ c.ask_image-q.ensures c.if-q-ne0.true }
-
-pub returns : goal.returns
-returns c =
+pub returns-clause-disk_after : goal.returns-clause-disk_after
+returns-clause-disk_after c =
     let a = c.args in
-    let q = sym c.ask_image-q.ensures ∙ c.if-q-ne0.false in record { value = sym q; disk_after = written_runs a.g a.first a.second a.blocks.now a.disk.now _ _ _ q c.put_slot.ensures c.put_slot-2.ensures c.write_bytes.ensures }
+    written_runs a.g a.first a.second a.blocks.now a.disk.now _ _ _ (yes _ _ _ c.in_ok-ask_image.ensures) c.put_slot.ensures c.put_slot-2.ensures c.write.ensures

@@ -1,14 +1,7 @@
-use mathlib.Core.Path.{sym, ◌∙◌}
 use native.Mathlib.Omega.{arith}
-use Rattle.laws.specs.Choice.{tests}
+use Rattle.refusal.specs.Refusal.{yes}
 use Rattle.layout.specs.Laws.{journal_location_asked}
 use Rattle.interval.proofs.JournalInterval.of_location.Goals as goal
 
-pub returns-then-q-ne0 : goal.returns-then-q-ne0
-returns-then-q-ne0 c = search (tests, ← c.ask_journal_location-q.ensures)
-
 pub overflow_sub-result : goal.overflow_sub-result
-overflow_sub-result c = let v = journal_location_asked _ _ (sym c.ask_journal_location-q.ensures ∙ c.if-q-ne0.false) in omega arith
-
-pub returns : goal.returns
-returns c = search (tests, ← c.ask_journal_location-q.ensures)
+overflow_sub-result c = let v = journal_location_asked _ _ (yes _ _ _ c.in_ok-ask_journal_location.ensures) in omega arith

@@ -1,49 +1,13 @@
-use Prim.Native.Nat.{◌-◌}
-use borrow.Author.Rules.{rules}
-use lib.ListN.{length, drop}
-use mathlib.Core.Bool.{not}
-use mathlib.Core.List.{List}
-use mathlib.Core.Path.{◌≡◌, refl, sym, ◌∙◌, ap}
-use native.Mathlib.Omega.{arith}
-use Rattle.laws.specs.Fold.{every}
-use Rattle.interval.specs.declared.JournalInterval.{JournalInterval}
-use Rattle.tables.proofs.Laws.Walks.{cut_front, mapped}
+use Rattle.std.proofs.Common.{rules, tests, ◌∙◌}
+use Rattle.std.proofs.lemmas.Iterator.{YieldsList-from_slice}
+use Rattle.std.proofs.lemmas.Iterator.Search.{all_from_yields_List}
+use Rattle.laws.specs.Chains.{all_every}
 use Rattle.joined.specs.Apart.{apart_from}
-use Rattle.joined.proofs.Laws.Walks.{walk_no, walk_yes, walk_done}
 use Rattle.joined.proofs.apart.apart_from.Goals as goal
-use Rattle.joined.proofs.apart.apart_from.Goals.{Start}
-
-intervals_long : (c : Start) → length c.args.table.intervals ≡ 16
-intervals_long c = search (rules, mapped)
-
-pub loop-i-init : goal.loop-i-init
-loop-i-init c = (let l = intervals_long (goal.at.loop-i-init c).Start in let e = c.lesser-n.ensures in omega arith, refl)
-
-pub offset_bounds-vs-i : goal.offset_bounds-vs-i
-offset_bounds-vs-i c = let l = intervals_long (goal.at.offset_bounds-vs-i c).Start in search rules
-
-pub bounds-vs-i : goal.bounds-vs-i
-bounds-vs-i c = let l = intervals_long (goal.at.bounds-vs-i c).Start in omega arith
-
-pub returns-then-meets : goal.returns-then-meets
-returns-then-meets c =
-    let l = c in
-    let a = c.args in
-    walk_no (apart_from a.v) _ _ _ _ c.loop-i.invariant.0 c.loop-i.invariant.1 _ c.loop-i-test.true (ap not (sym c.meets-meets.ensures ∙ c.if-meets.true))
-    ∙ cut_front (λ (us : List JournalInterval). every (apart_from a.v) (drop a.from us)) a.table.intervals a.table.count _ 16 (intervals_long (goal.at.returns-then-meets c).Start) c.lesser-n.ensures
-
-pub overflow_add-i : goal.overflow_add-i
-overflow_add-i c = let l = intervals_long (goal.at.overflow_add-i c).Start in search rules
-
-pub loop-i-preserved : goal.loop-i-preserved
-loop-i-preserved c =
-    let l = c in
-    let a = c.args in
-    (c.loop-i.invariant.0, walk_yes (apart_from a.v) _ _ _ _ c.loop-i.invariant.0 c.loop-i.invariant.1 _ c.loop-i-test.true (ap not (sym c.meets-meets.ensures ∙ c.if-meets.false)))
 
 pub returns : goal.returns
 returns c =
-    let l = c in
-    let a = c.args in
-    walk_done (apart_from a.v) _ _ c.loop-i.i _ c.loop-i.invariant.0 c.loop-i.invariant.1 c.loop-i-test.false
-    ∙ cut_front (λ (us : List JournalInterval). every (apart_from a.v) (drop a.from us)) a.table.intervals a.table.count _ 16 (intervals_long (goal.at.returns c).Start) c.lesser-n.ensures
+    let p = apart_from c.args.v in
+    let xs = c.args.rows.now in
+    let r = all_from_yields_List p _ _ c.all.result c.all.ensures.ran (YieldsList-from_slice xs cc) (λ x b q k. search (rules, tests)) in
+    r ∙ all_every p xs

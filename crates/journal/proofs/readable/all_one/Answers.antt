@@ -1,19 +1,14 @@
-use Prim.Native.Nat.{◌-◌}
-use native.Mathlib.Omega.{arith}
+use Rattle.std.specs.Prelude.{Bool, true, ℕ}
+use Rattle.std.proofs.Common.{rules, ◌∙◌}
+use Rattle.std.proofs.lemmas.Iterator.{YieldsList-from_slice}
+use Rattle.std.proofs.lemmas.Iterator.Consumers.{fold_from_yields_List}
+use Rattle.laws.specs.Choice.{tests, also, and_also}
+use Rattle.laws.specs.Fold.{every_fold}
 use Rattle.journal.specs.Memory.{is_one}
-use Rattle.laws.specs.Choice.{true_also}
-use Rattle.laws.specs.Fold.{flag_turn, flag_end}
 use Rattle.journal.proofs.readable.all_one.Goals as goal
 
-pub loop-i-init : goal.loop-i-init
-loop-i-init c = (omega arith, true_also _)
-
-pub loop-i-preserved : goal.loop-i-preserved
-loop-i-preserved c =
-    let l = c in
-    (omega arith, flag_turn is_one c.args.marks.now c.loop-i.i 0 _ _ (omega arith) c.loop-i.invariant.1 c.and_one-ok.ensures)
-
 pub returns : goal.returns
+unfolding also is_one
 returns c =
-    let l = c in
-    flag_end is_one c.args.marks.now c.loop-i.i _ (omega arith) c.loop-i.invariant.1
+    fold_from_yields_List _ (λ (ok : Bool) (mark : ℕ). also ok (is_one mark)) true c.fold.result c.fold.ensures.ran (YieldsList-from_slice c.args.marks.now cc) (λ a x b q k. search (rules, tests, and_also))
+    ∙ every_fold is_one true c.args.marks.now

@@ -12,7 +12,7 @@ returns c =
     let p2 = c in
     let p1 = c in
     let a = c.args in
-    every_around a.marks.now a.v.start a.v.len c.lesser-place.result c.lesser-first.result c.lesser-rest.result
-    (c.lesser-place.result + c.lesser-first.result - c.lesser-place.result) (c.lesser-rest.result - 0)
-    c.lesser-place.ensures c.lesser-first.ensures c.lesser-rest.ensures (omega arith) (omega arith)
+    every_around a.marks.now a.v.start a.v.len c.min-place.result c.min-first.result c.min-rest.result
+    (c.min-place.result + c.min-first.result - c.min-place.result) (c.min-rest.result - 0)
+    c.min-place.ensures c.min-first.ensures c.min-rest.ensures (omega arith) (omega arith)
     is_one _ _ c.all_one-a.ensures c.all_one-b.ensures

@@ -11,7 +11,7 @@ returns c =
     let p2 = c in
     let p1 = c in
     let a = c.args in
-    around_copied a.src.now a.at a.n c.lesser-place.result c.lesser-first.result c.lesser-rest.result
-    (c.lesser-place.result + c.lesser-first.result - c.lesser-place.result) (c.lesser-rest.result - 0)
-    c.lesser-place.ensures c.lesser-first.ensures c.lesser-rest.ensures (omega arith) (omega arith)
-    a.out.now _ _ c.write_bytes.ensures c.write_bytes-2.ensures
+    around_copied a.src.now a.at a.n c.min-place.result c.min-first.result c.min-rest.result
+    (c.min-place.result + c.min-first.result - c.min-place.result) (c.min-rest.result - 0)
+    c.min-place.ensures c.min-first.ensures c.min-rest.ensures (omega arith) (omega arith)
+    a.out.now _ _ c.write.ensures c.write-2.ensures

@@ -18,6 +18,6 @@ returns c =
     part_cut a.src.now (a.from * 4096) (a.count * 4096) c.bytes_of-start.result c.bytes_of-size.result c.bytes_of-size.result
     c.bytes_of-start.ensures c.bytes_of-size.ensures refl
     in
-    c.copy_bytes.ensures
+    c.copy.ensures
     ∙ (λ i. clipped a.dst.now (c.bytes_of-place.ensures i) (part i))
     ∙ clipped_min a.dst.now (a.at * 4096) (take (a.count * 4096) (drop (a.from * 4096) a.src.now))

@@ -11,6 +11,6 @@ returns c =
     let w = c in
     let b = c in
     let a = c.args in
-    c.write_bytes_around.ensures
+    c.write_around.ensures
     ∙ ap (λ (p : ℕ). clipped_around a.blocks.now p a.new.now) c.bytes_of-at.ensures
     ∙ splice_around_min a.blocks.now (a.v.start * 4096) (take (length a.blocks.now) a.new.now)

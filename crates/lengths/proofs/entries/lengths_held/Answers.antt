@@ -1,31 +1,30 @@
-use Prim.Native.Nat.{◌+◌, ◌-◌}
-use mathlib.Core.Path.{sym, ◌∙◌}
-use native.Mathlib.Omega.{arith}
-use Rattle.lengths.specs.Held.{SoFar, so_far_none, so_far_no, so_far_next, so_far_all}
+use Rattle.std.proofs.Common.{rules, arith, ℕ, ◌≡◌, ◌+◌, ◌∙◌, sym, subst, List}
+use Rattle.std.specs.Slice.Iter.{chunks_rest}
+use Rattle.lengths.specs.Held.{PartsHeld, parts_none, parts_no, parts_next, parts_all}
 use Rattle.lengths.proofs.entries.lengths_held.Goals as goal
-use Rattle.lengths.proofs.entries.lengths_held.Goals.{In-Bytes}
+use Rattle.lengths.proofs.entries.lengths_held.Goals.{In_ok-sum}
 
-next : (c : In-Bytes)
-    → SoFar c.args.most c.args.room c.args.lens.now (c.loop-at.at + c.lesser.result) (c.loop-at.sum + c.in-Bytes.bytes)
-next c =
-    so_far_next _ _ _ _ _ c.loop-at.invariant (c.loop-at.at + c.lesser.result - c.loop-at.at) _ _ (omega arith) (omega arith) (sym c.in-Bytes.is ∙ c.part_held-part.ensures)
+next : (c : In_ok-sum)
+    → PartsHeld c.args.most c.args.room c.args.lens.now (chunks_rest c.next.new.self) (c.loop-part.sum + c.in_ok-sum.field-0)
+next c = parts_next _ _ _ _ _ c.loop-part.invariant.1 _ _ c.in-Some.ensures.steps.1.0 _ c.in_ok-sum.ensures
 
-pub loop-at-init : goal.loop-at-init
-loop-at-init c = so_far_none _ _ _
+pub loop-part-init : goal.loop-part-init
+loop-part-init c =
+    let e : chunks_rest c.into_iter-part-iterator.result ≡ c.args.lens.now = search rules in
+    (search rules, subst (λ (xs : List ℕ). PartsHeld c.args.most c.args.room c.args.lens.now xs 0) (sym e) (parts_none _ _ _))
 
-pub returns-in_default : goal.returns-in_default
-returns-in_default c =
-    let l = c in
-    so_far_no _ _ _ _ _ c.loop-at.invariant (c.loop-at.at + c.lesser.result - c.loop-at.at) (sym c.in_default.is ∙ c.part_held-part.ensures)
+pub part_held-requires : goal.part_held-requires
+part_held-requires c = omega (arith, c.in-Some.ensures.steps.1.1, c.loop-part.invariant.0)
+
+pub returns-in_err-sum : goal.returns-in_err-sum
+returns-in_err-sum c =
+    c.from_residual.ensures ∙ parts_no _ _ _ _ _ c.loop-part.invariant.1 _ _ c.in-Some.ensures.steps.1.0 c.in_err-sum.ensures
 
 pub overflow_add-sum : goal.overflow_add-sum
-overflow_add-sum c = let n = next (goal.at.overflow_add-sum c).In-Bytes in omega arith
+overflow_add-sum c = let n = next (goal.at.overflow_add-sum c).In_ok-sum in omega (arith, n.fit)
 
-pub loop-at-smaller : goal.loop-at-smaller
-loop-at-smaller c = let n = next (goal.at.loop-at-smaller c).In-Bytes in omega arith
-
-pub loop-at-preserved : goal.loop-at-preserved
-loop-at-preserved c = next (goal.at.loop-at-preserved c).In-Bytes
+pub loop-part-preserved : goal.loop-part-preserved
+loop-part-preserved c = (c.in-Some.ensures.steps.0 ∙ c.loop-part.invariant.0, next (goal.at.loop-part-preserved c).In_ok-sum)
 
 pub returns : goal.returns
-returns c = so_far_all _ _ _ _ _ c.loop-at.invariant (omega arith)
+returns c = parts_all _ _ _ _ _ c.loop-part.invariant.1 c.in-None.ensures.steps.1.0

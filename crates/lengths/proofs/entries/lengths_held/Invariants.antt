@@ -1,10 +1,7 @@
-use Prim.Native.Nat.{◌-◌}
-use lib.ListN.{length}
-use Rattle.lengths.specs.Held.{SoFar}
+use Rattle.std.proofs.Common.{◌≡◌}
+use Rattle.std.specs.Slice.Iter.{chunks_rest, chunks_size}
+use Rattle.lengths.specs.Held.{PartsHeld}
 use Rattle.lengths.proofs.entries.lengths_held.Given as goal
 
-abbrev pub invariant-loop-at : goal.invariant-loop-at
-invariant-loop-at l = SoFar l.most l.room l.lens l.at l.sum
-
-abbrev pub decreases-loop-at : goal.decreases-loop-at
-decreases-loop-at l = length l.lens - l.at
+abbrev pub invariant-loop-part : goal.invariant-loop-part
+invariant-loop-part l = (chunks_size l.part-iterator ≡ 4096) × PartsHeld l.most l.room l.lens (chunks_rest l.part-iterator) l.sum

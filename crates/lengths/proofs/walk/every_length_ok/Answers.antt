@@ -1,21 +1,22 @@
-use Prim.Native.Nat.{◌-◌}
-use native.Mathlib.Omega.{arith}
+use Rattle.std.proofs.Common.{rules, ◌<◌, ◌≤◌, length}
 use Rattle.laws.specs.Choice.{true_also}
 use Rattle.laws.specs.Fold.{flag_turn, flag_end}
 use Rattle.range.specs.Form.{ok_length}
 use Rattle.lengths.proofs.walk.every_length_ok.Goals as goal
 
-pub loop-i-init : goal.loop-i-init
-loop-i-init c = (omega arith, true_also _)
+pub loop-length-init : goal.loop-length-init
+loop-length-init c = true_also _
 
-pub loop-i-preserved : goal.loop-i-preserved
-loop-i-preserved c =
-    let i = c in
+pub loop-length-preserved : goal.loop-length-preserved
+loop-length-preserved c =
     let a = c.args in
-    (omega arith, flag_turn (ok_length a.most) a.lens.now c.loop-i.i 0 _ _ (omega arith) c.loop-i.invariant.1 c.and_ok-ok.ensures)
+    let i = c.loop-length in
+    let l : i.length-index < length a.lens.now = search rules in
+    flag_turn (ok_length a.most) a.lens.now i.length-index 0 _ _ l i.invariant c.and_ok-ok.ensures
 
 pub returns : goal.returns
 returns c =
-    let i = c in
     let a = c.args in
-    flag_end (ok_length a.most) a.lens.now c.loop-i.i _ (omega arith) c.loop-i.invariant.1
+    let i = c.loop-length in
+    let l : length a.lens.now ≤ i.length-index = search rules in
+    flag_end (ok_length a.most) a.lens.now i.length-index _ l i.invariant

@@ -1,6 +1,11 @@
-use Rattle.machine.specs.Laws.Memory.{first_part, unpacks_same}
+use Rattle.std.proofs.Common.{ℕ, List, ◌∙◌, ap}
+use Rattle.range.specs.Form.{all_entries}
+use Rattle.reader.specs.Answer.{scanned}
+use Rattle.unpacker.specs.Unpack.{ask_unpack}
+use Rattle.machine.specs.Laws.Memory.{first_part}
 use Rattle.machine.proofs.loading_steps.unpack_blocks.Goals as goal
 
-pub returns : goal.returns
-returns c =
-    let all = unpacks_same _ _ (first_part _ _ _ c.bytes_of-n.ensures) _ _ _ _ _ c.unpack.ensures.value c.unpack.ensures.bytes_after c.unpack.ensures.lens_after in record { value = all.0; rbytes_after = all.1.0; rlens_after = all.1.1 }
+pub returns-clause-value : goal.returns-clause-value
+returns-clause-value c =
+    c.unpack.ensures.value
+    ∙ ap (λ (xs : List ℕ). scanned (ask_unpack xs c.args.rbytes.now c.args.rlens.now) (all_entries xs)) (first_part _ _ _ c.bytes_of-n.ensures)

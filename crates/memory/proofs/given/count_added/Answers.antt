@@ -1,33 +1,24 @@
-use lib.Seq.{length-take-le}
-use mathlib.Core.Path.{sym, ◌∙◌}
+use Rattle.std.specs.Prelude.{ℕ, Ok}
+use Rattle.std.proofs.Common.{sym, ◌∙◌, ap, length-take-le}
+use Rattle.laws.specs.Choice.{and_then_done, ask_fails}
 use Rattle.range.specs.Memory.{view}
-use Rattle.memory.specs.Given.{given_asked}
-use Rattle.memory.proofs.BlankLaws.{given_refusal, added_no, added_yes, added_blank}
+use Rattle.refusal.specs.Refusal.{yes, yes_value, ok_unless, unless_ok}
+use Rattle.memory.specs.Given.{memory, count_of, given_asked, ask_added, asked_added}
 use Rattle.memory.proofs.given.count_added.Goals as goal
 
-pub returns-then-q-ne0 : goal.returns-then-q-ne0
-returns-then-q-ne0 c =
-    let q = given_refusal _ _ _ c.count_given-given.ensures c.refusal-q.ensures in
-    added_no _ _ c.count_given-given.ensures (λ z. c.if-q-ne0.true (q ∙ z))
-
 pub slice_bounds-none_blank-end : goal.slice_bounds-none_blank-end
-slice_bounds-none_blank-end c =
-    let q = given_refusal _ _ _ c.count_given-given.ensures c.refusal-q.ensures in
-    sym (length-take-le _ _ (given_asked _ (sym q ∙ c.if-q-ne0.false)).held.there)
+slice_bounds-none_blank-end c = sym (length-take-le _ _ (given_asked _ (yes _ _ _ c.in_ok-given.ensures)).held.there)
 
-pub none_blank-some-requires : goal.none_blank-some-requires
-none_blank-some-requires c =
-    let q = given_refusal _ _ _ c.count_given-given.ensures c.refusal-q.ensures in
-    (given_asked _ (sym q ∙ c.if-q-ne0.false)).held.fit
+pub none_blank-requires : goal.none_blank-requires
+none_blank-requires c = (given_asked _ (yes _ _ _ c.in_ok-given.ensures)).held.fit
 
-pub returns-then-some : goal.returns-then-some
+pub returns-then-none_blank : goal.returns-then-none_blank
 unfolding view
-returns-then-some c =
-    let q = given_refusal _ _ _ c.count_given-given.ensures c.refusal-q.ensures in
-    added_yes _ _ c.count_given-given.ensures (sym q ∙ c.if-q-ne0.false) (sym c.none_blank-some.ensures ∙ c.if-some.true)
+returns-then-none_blank c =
+    ap Ok (yes_value _ _ _ c.in_ok-given.ensures)
+    ∙ sym (unless_ok _ _ (asked_added _ (yes _ _ _ c.in_ok-given.ensures) (sym c.none_blank.ensures ∙ c.if-none_blank.true)))
 
 pub returns : goal.returns
-unfolding view
+unfolding ask_added view
 returns c =
-    let q = given_refusal _ _ _ c.count_given-given.ensures c.refusal-q.ensures in
-    added_blank _ (sym q ∙ c.if-q-ne0.false) (sym c.none_blank-some.ensures ∙ c.if-some.false)
+    ap (λ (q : ℕ). ok_unless q (count_of (memory c.args.bodies.now c.args.sizes.now c.args.k))) (sym (and_then_done _ _ (yes _ _ _ c.in_ok-given.ensures) ∙ ask_fails 13 _ (sym c.none_blank.ensures ∙ c.if-none_blank.false)))

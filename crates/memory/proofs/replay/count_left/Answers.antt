@@ -1,27 +1,23 @@
-use mathlib.Core.Path.{sym, ◌∙◌}
-use native.Mathlib.Omega.{arith}
-use Rattle.laws.specs.Choice.{tests, and_then}
+use Rattle.std.specs.Prelude.{Err}
+use Rattle.std.proofs.Common.{◌∙◌, ap, arith}
+use Rattle.refusal.specs.Refusal.{yes, handed_on, some_of, none_of}
 use Rattle.lengths.specs.Entries.{entries_bytes}
-use Rattle.memory.specs.Answer.{counted}
-use Rattle.memory.specs.Replay.{ask_replay}
 use Rattle.memory.specs.ReplayLaws.{left_past, left_no, left_yes}
 use Rattle.memory.proofs.replay.count_left.Goals as goal
 
-pub returns-then-q-ne0 : goal.returns-then-q-ne0
-unfolding counted ask_replay and_then
-returns-then-q-ne0 c = search (tests, ← c.ask_replay_lent-q.ensures)
-
 pub returns-then-size-taken : goal.returns-then-size-taken
-returns-then-size-taken c = left_past _ _ _ (sym c.ask_replay_lent-q.ensures ∙ c.if-q-ne0.false) c.if-size-taken.true
+returns-then-size-taken c = left_past _ _ _ (yes _ _ _ c.in_ok-ask_replay_lent.ensures) c.if-size-taken.true
 
-pub returns-in_default : goal.returns-in_default
-returns-in_default c = left_no _ _ _ (sym c.ask_replay_lent-q.ensures ∙ c.if-q-ne0.false) (sym c.in_default.is ∙ c.entries_held-h.ensures)
+pub returns-in_err-left : goal.returns-in_err-left
+returns-in_err-left c =
+    let n = none_of _ _ _ c.in_err-left.ensures.value in
+    handed_on _ _ c.from_residual-in_err-left.ensures.1 ∙ ap Err n.1 ∙ left_no _ _ _ (yes _ _ _ c.in_ok-ask_replay_lent.ensures) (n.0 ∙ c.entries_held.ensures)
 
 pub overflow_sub-result : goal.overflow_sub-result
 overflow_sub-result c =
-    let f = (entries_bytes _ _ _ _ _ (sym c.in-Bytes.is ∙ c.entries_held-h.ensures)).0 in
+    let f = (entries_bytes _ _ _ _ _ (some_of _ _ _ c.in_ok-left.ensures.value ∙ c.entries_held.ensures)).0 in
     let order = f.order in
     omega arith
 
 pub returns : goal.returns
-returns c = left_yes _ _ _ (sym c.ask_replay_lent-q.ensures ∙ c.if-q-ne0.false) _ (omega arith) (sym c.in-Bytes.is ∙ c.entries_held-h.ensures)
+returns c = left_yes _ _ _ (yes _ _ _ c.in_ok-ask_replay_lent.ensures) _ (omega arith) (some_of _ _ _ c.in_ok-left.ensures.value ∙ c.entries_held.ensures)

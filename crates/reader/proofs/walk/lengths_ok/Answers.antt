@@ -1,20 +1,17 @@
-use Prim.Native.Nat.{◌-◌}
-use native.Mathlib.Omega.{arith}
-use Rattle.laws.specs.Choice.{true_also}
-use Rattle.laws.specs.Fold.{flag_turn, flag_end}
+use Rattle.std.specs.Prelude.{Bool, true, ℕ, leb}
+use Rattle.std.proofs.Common.{rules, arith, ◌∙◌, sym, refl, get_or}
+use Rattle.std.proofs.lemmas.Iterator.{YieldsList-from_slice}
+use Rattle.std.proofs.lemmas.Iterator.Consumers.{fold_from_yields_List}
+use Rattle.laws.specs.Choice.{tests, also, and_also}
+use Rattle.laws.specs.Fold.{every_fold, every_same}
 use Rattle.range.specs.Form.{most_entry_length, ok_length}
+use Rattle.range.specs.Lengths.{ok_byte}
 use Rattle.reader.proofs.walk.lengths_ok.Goals as goal
 
-pub loop-i-init : goal.loop-i-init
-loop-i-init c = (omega arith, true_also _)
-
-pub loop-i-preserved : goal.loop-i-preserved
-loop-i-preserved c =
-    let i = c in
-    let l = c.args.lengths.now in
-    (omega arith, flag_turn (ok_length most_entry_length) l c.loop-i.i 0 _ _ (omega arith) c.loop-i.invariant.1 c.and_some-ok.ensures)
-
 pub returns : goal.returns
+unfolding also
 returns c =
-    let i = c in
-    flag_end (ok_length most_entry_length) c.args.lengths.now c.loop-i.i _ (omega arith) c.loop-i.invariant.1
+    fold_from_yields_List _ (λ (ok : Bool) (length : ℕ). also ok (leb 1 length)) true c.fold.result c.fold.ensures.ran (YieldsList-from_slice c.args.lengths.now cc)
+    (λ a x b q k. search (rules, tests, and_also))
+    ∙ every_fold (leb 1) true c.args.lengths.now
+    ∙ every_same (leb 1) (ok_length most_entry_length) c.args.lengths.now c.args.lengths.now 0 0 refl (λ i h. sym (ok_byte (get_or c.args.lengths.now i 0) (omega (arith, c.type_inv.lengths i))))

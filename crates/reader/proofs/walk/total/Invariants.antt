@@ -1,11 +1,10 @@
-use Prim.Native.Nat.{◌+◌, ◌-◌, ◌*◌, ◌≤◌}
-use lib.ListN.{length, drop}
-use mathlib.Core.Path.{◌≡◌}
+use Rattle.std.proofs.Common.{◌≡◌, ◌≤◌, ◌+◌, ◌*◌, length}
+use Rattle.std.specs.Slice.Iter.{chunks_rest, chunks_size}
 use Rattle.laws.specs.Fold.{sum}
 use Rattle.reader.proofs.walk.total.Given as goal
 
-abbrev pub invariant-loop-i : goal.invariant-loop-i
-invariant-loop-i l = (l.i ≤ length l.lengths) × (l.bytes ≤ 255 * l.i) × (l.bytes + sum (drop l.i l.lengths) ≡ sum l.lengths)
-
-abbrev pub decreases-loop-i : goal.decreases-loop-i
-decreases-loop-i l = length l.lengths - l.i
+abbrev pub invariant-loop-part : goal.invariant-loop-part
+invariant-loop-part l =
+    (chunks_size l.part-iterator ≡ 64)
+    × (l.bytes + 255 * length (chunks_rest l.part-iterator) ≤ 255 * length l.lengths)
+    × (l.bytes + sum (chunks_rest l.part-iterator) ≡ sum l.lengths)

@@ -1,15 +1,19 @@
-use Prim.Native.Nat.{◌-◌}
-use native.Mathlib.Omega.{arith}
+use Rattle.std.proofs.Common.{rules, arith, ◌<◌, ◌≤◌, length}
 use Rattle.laws.specs.Fold.{sum_step, sum_end}
 use Rattle.reader.proofs.walk.total_in.Goals as goal
 
-pub loop-i-preserved : goal.loop-i-preserved
-loop-i-preserved c =
-    let i = c in
-    let l = c.args.lengths.now in
-    (omega arith, omega arith, omega (arith, sum_step l c.loop-i.i (omega arith)))
+pub loop-length-preserved : goal.loop-length-preserved
+loop-length-preserved c =
+    let s = c.args.lengths.now in
+    let i = c.loop-length in
+    let l : i.length-index < length s = search rules in
+    let b : c.from-bytes.result < 256 = search rules in
+    (omega arith, omega (arith, sum_step s i.length-index l))
 
 pub returns : goal.returns
 returns c =
-    let l = c.args.lengths.now in
-    (omega (arith, sum_end l c.loop-i.i (omega arith)), omega (arith, sum_end l c.loop-i.i (omega arith)))
+    let s = c.args.lengths.now in
+    let i = c.loop-length in
+    let l : length s ≤ i.length-index = search rules in
+    let m : i.length-index ≤ length s = search rules in
+    (omega (arith, sum_end s i.length-index l), omega (arith, sum_end s i.length-index l))

@@ -1,11 +1,6 @@
-use Prim.Native.Nat.{◌+◌, ◌-◌, ◌*◌, ◌≤◌}
-use lib.ListN.{length, drop}
-use mathlib.Core.Path.{◌≡◌}
+use Rattle.std.proofs.Common.{◌≡◌, ◌≤◌, ◌+◌, ◌*◌, drop}
 use Rattle.laws.specs.Fold.{sum}
 use Rattle.reader.proofs.walk.total_in.Given as goal
 
-abbrev pub invariant-loop-i : goal.invariant-loop-i
-invariant-loop-i l = (l.i ≤ length l.lengths) × (l.bytes ≤ 255 * l.i) × (l.bytes + sum (drop l.i l.lengths) ≡ sum l.lengths)
-
-abbrev pub decreases-loop-i : goal.decreases-loop-i
-decreases-loop-i l = length l.lengths - l.i
+abbrev pub invariant-loop-length : goal.invariant-loop-length
+invariant-loop-length l = (l.bytes ≤ 255 * l.length-index) × (l.bytes + sum (drop l.length-index l.lengths) ≡ sum l.lengths)

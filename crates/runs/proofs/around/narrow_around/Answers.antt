@@ -10,7 +10,7 @@ pub returns : goal.returns
 returns c =
     let s = c in
     let l = length_low_bytes c.args.src.now in
-    let first = c.lesser-first.result in
-    let end = c.lesser-end.result in
+    let first = c.min-first.result in
+    let end = c.min-end.result in
     around_two c.args.dst.now _ _ c.args.at (low_bytes c.args.src.now) first end (omega (arith, l)) (omega (arith, l)) c.narrow.ensures
     (c.narrow-2.ensures ∙ ap (clipped _ 0) (low_bytes_part first (end - first) c.args.src.now))

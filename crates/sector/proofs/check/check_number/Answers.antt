@@ -1,21 +1,11 @@
-use Rattle.std.proofs.Common.{◌-◌, arith}
-use Rattle.laws.specs.Fold as fold
-use Rattle.laws.specs.Fold.{sum_step, sum_end}
-use Rattle.sector.specs.Sector.{check_number}
+use Rattle.std.specs.Prelude.{ℕ, ◌+◌, ◌%◌, ◌^◌}
+use Rattle.std.proofs.Common.{rules, ◌∙◌}
+use Rattle.std.proofs.lemmas.Iterator.{YieldsList-from_slice}
+use Rattle.std.proofs.lemmas.Iterator.Consumers.{fold_from_yields_List}
+use Rattle.sector.specs.Laws.{check_fold}
 use Rattle.sector.proofs.check.check_number.Goals as goal
 
-pub loop-i-init : goal.loop-i-init
-loop-i-init c = (omega arith, omega arith, omega arith)
-
-pub loop-i-preserved : goal.loop-i-preserved
-loop-i-preserved c =
-    let i = c in
-    let l = c.args.numbers.now in
-    (omega arith, omega arith, omega (arith, sum_step l c.loop-i.i (omega arith)))
-
 pub returns : goal.returns
-unfolding check_number
 returns c =
-    let i = c in
-    let l = c.args.numbers.now in
-    omega (arith, sum_end l c.loop-i.i (omega arith))
+    fold_from_yields_List _ (λ (sum n : ℕ). (sum + n) % 2 ^ 64) 0 c.fold.result c.fold.ensures.ran (YieldsList-from_slice c.args.numbers.now cc) (λ a x b q k. search rules)
+    ∙ check_fold c.args.numbers.now

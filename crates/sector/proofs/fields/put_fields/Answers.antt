@@ -15,4 +15,4 @@ returns c =
     let k = c in
     let s = c in
     put_runs c.args.contents.now c.args.numbers.now c.args.sector.now _ _ _ _ _ c.check_number-check.result c.requires.0 c.requires.1
-    c.check_number-check.ensures c.write_bytes.ensures c.fill.ensures c.put_numbers.ensures c.put_number.ensures c.fill-2.ensures
+    c.check_number-check.ensures c.write.ensures c.fill.ensures c.put_numbers.ensures c.put_number.ensures c.fill-2.ensures

@@ -1,4 +1,4 @@
-use Rattle.tables.specs.IntervalTable.{held_of}
+use Rattle.laws.specs.Optional.{optional}
 use Rattle.tables.proofs.Laws.Places.{found, missed}
 use Rattle.tables.proofs.Laws.Walks.{mapped}
 use borrow.Author.Rules.{rules}
@@ -15,10 +15,8 @@ intervals_long c = search (rules, mapped)
 
 pub returns-then-i-n : goal.returns-then-i-n
 returns-then-i-n c =
-    let s = c in
-    sym (ap held_of (found _ _ _ _ _ _ 16 (ids_long (goal.at.returns-then-i-n c).Start) (intervals_long (goal.at.returns-then-i-n c).Start) c.lesser-n.ensures c.place-i.ensures _ c.if-i-n.true))
+    sym (ap optional (found _ _ _ _ _ _ 16 (ids_long (goal.at.returns-then-i-n c).Start) (intervals_long (goal.at.returns-then-i-n c).Start) c.min-n.ensures c.place-i.ensures _ c.if-i-n.true))
 
 pub returns : goal.returns
 returns c =
-    let s = c in
-    sym (ap held_of (missed _ _ _ _ _ _ 16 (ids_long (goal.at.returns c).Start) (intervals_long (goal.at.returns c).Start) c.lesser-n.ensures c.place-i.ensures c.if-i-n.false))
+    sym (ap optional (missed _ _ _ _ _ _ 16 (ids_long (goal.at.returns c).Start) (intervals_long (goal.at.returns c).Start) c.min-n.ensures c.place-i.ensures c.if-i-n.false))

@@ -15,9 +15,9 @@ states_long c = search rules
 pub returns-then-i-n : goal.returns-then-i-n
 returns-then-i-n c =
     let s = c in
-    sym (ap or_zero (found _ _ _ _ _ _ 32 (ids_long (goal.at.returns-then-i-n c).Start) (states_long (goal.at.returns-then-i-n c).Start) c.lesser-n.ensures c.place-i.ensures _ c.if-i-n.true))
+    sym (ap or_zero (found _ _ _ _ _ _ 32 (ids_long (goal.at.returns-then-i-n c).Start) (states_long (goal.at.returns-then-i-n c).Start) c.min-n.ensures c.place-i.ensures _ c.if-i-n.true))
 
 pub returns : goal.returns
 returns c =
     let s = c in
-    sym (ap or_zero (missed _ _ _ _ _ _ 32 (ids_long (goal.at.returns c).Start) (states_long (goal.at.returns c).Start) c.lesser-n.ensures c.place-i.ensures c.if-i-n.false))
+    sym (ap or_zero (missed _ _ _ _ _ _ 32 (ids_long (goal.at.returns c).Start) (states_long (goal.at.returns c).Start) c.min-n.ensures c.place-i.ensures c.if-i-n.false))

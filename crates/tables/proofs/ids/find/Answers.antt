@@ -1,16 +1,13 @@
-use Prim.Native.Nat.{◌-◌}
-use Rattle.tables.proofs.Laws.Places.{place_start, place_hit, place_turn, place_end}
-use borrow.Author.Rules.{rules}
+use Rattle.std.proofs.Common.{rules, tests, ◌∙◌, ap, eqb, ℕ, length}
+use Rattle.std.proofs.lemmas.Iterator.{YieldsList-from_slice}
+use Rattle.std.proofs.lemmas.Iterator.Search.{position_from_yields_List}
+use Rattle.std.specs.declared.option.Option as code
+use Rattle.std.specs.Prelude.{unwrap_or}
+use Rattle.tables.proofs.Laws.Places.{place_found}
 use Rattle.tables.proofs.ids.find.Goals as goal
 
-pub loop-at-init : goal.loop-at-init
-loop-at-init c = (search rules, place_start _ _ 0)
-
-pub returns-then-ids-at : goal.returns-then-ids-at
-returns-then-ids-at c = let i = c in place_hit _ _ _ c.loop-at-test.true c.if-ids-at.true c.loop-at.invariant.1
-
-pub loop-at-preserved : goal.loop-at-preserved
-loop-at-preserved c = let i = c in (search rules, place_turn _ _ _ c.loop-at-test.true c.if-ids-at.false c.loop-at.invariant.1)
-
 pub returns : goal.returns
-returns c = place_end _ _ _ c.loop-at-test.false c.loop-at.invariant.1
+returns c =
+    let ids = c.args.ids.now in
+    let r = position_from_yields_List (λ (k : ℕ). eqb k c.args.id) _ _ c.position.result c.position.ensures.ran (YieldsList-from_slice ids cc) (λ x b q k. search (rules, tests)) in
+    c.unwrap_or.ensures ∙ ap (λ (o : code.Option ℕ). unwrap_or o (length ids)) r ∙ place_found c.args.id ids

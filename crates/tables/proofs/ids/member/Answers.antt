@@ -1,9 +1,6 @@
-use Prim.Native.Nat.{ℕ}
-use Rattle.tables.proofs.Laws.Places.{place_in}
-use lib.Dec.{ltb}
-use lib.ListN.{length}
-use mathlib.Core.Path.{◌∙◌, ap}
+use Rattle.std.proofs.Common.{◌∙◌}
+use Rattle.laws.specs.Chains.{any_ids}
 use Rattle.tables.proofs.ids.member.Goals as goal
 
 pub returns : goal.returns
-returns c = let a = c.args in ap (λ (n : ℕ). ltb n (length a.ids.now)) c.find-i.ensures ∙ place_in a.id a.ids.now
+returns c = c.contains.ensures.value ∙ any_ids c.args.ids.now c.args.id

@@ -1,24 +1,13 @@
-use Prim.Native.Nat.{◌-◌}
-use Rattle.laws.specs.Fold.{every_no, every_yes, every_done}
+use Rattle.std.proofs.Common.{rules, tests, ◌∙◌}
+use Rattle.std.proofs.lemmas.Iterator.{YieldsList-from_slice}
+use Rattle.std.proofs.lemmas.Iterator.Search.{all_from_yields_List}
+use Rattle.laws.specs.Chains.{all_every}
+use Rattle.laws.specs.Sets.{ids_of}
 use Rattle.tables.specs.Rows.{within}
-use borrow.Author.Rules.{rules}
-use mathlib.Core.Path.{refl, sym, ◌∙◌}
 use Rattle.tables.proofs.ids.within.Goals as goal
-
-pub loop-i-init : goal.loop-i-init
-loop-i-init c = (search rules, refl)
-
-pub loop-i-preserved : goal.loop-i-preserved
-loop-i-preserved c =
-    let l = c in
-    (search rules, every_yes _ _ _ 0 c.loop-i-test.true c.loop-i.invariant.1 (sym c.member-there.ensures ∙ c.if-there.true))
-
-pub returns-else-there : goal.returns-else-there
-unfolding within
-returns-else-there c =
-    let l = c in
-    every_no _ _ _ 0 c.loop-i-test.true c.loop-i.invariant.1 (sym c.member-there.ensures ∙ c.if-there.false)
 
 pub returns : goal.returns
 unfolding within
-returns c = every_done _ _ _ c.loop-i-test.false c.loop-i.invariant.1
+returns c =
+    let r = all_from_yields_List (ids_of c.args.others.now) _ _ c.all.result c.all.ensures.ran (YieldsList-from_slice c.args.ids.now cc) (λ x b q k. search (rules, tests)) in
+    r ∙ all_every (ids_of c.args.others.now) c.args.ids.now

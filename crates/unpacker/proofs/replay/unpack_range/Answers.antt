@@ -15,8 +15,8 @@ overflow_add-bodies c = let f = facts (goal.at.overflow_add-bodies c).After-cont
 pub overflow_add-end : goal.overflow_add-end
 overflow_add-end c = let f = facts (goal.at.overflow_add-end c).After-contents-c in omega arith
 
-pub slice_bounds-write_bytes-end : goal.slice_bounds-write_bytes-end
-slice_bounds-write_bytes-end c = let f = facts (goal.at.slice_bounds-write_bytes-end c).After-contents-c in omega arith
+pub slice_bounds-write-end : goal.slice_bounds-write-end
+slice_bounds-write-end c = let f = facts (goal.at.slice_bounds-write-end c).After-contents-c in omega arith
 
 pub slice_bounds-widen-end : goal.slice_bounds-widen-end
 slice_bounds-widen-end c = let f = facts (goal.at.slice_bounds-widen-end c).After-contents-c in omega arith
@@ -24,4 +24,4 @@ slice_bounds-widen-end c = let f = facts (goal.at.slice_bounds-widen-end c).Afte
 pub returns : goal.returns
 returns c =
     let q = c in
-    let st = c in record { value = c.contents-c.ensures; bytes_after = c.write_bytes.ensures ∙ ap (clipped c.args.bytes.now c.args.at) (bodies_part _ c.requires _ c.contents-c.ensures); lens_after = c.widen.ensures ∙ ap (clipped c.args.lens.now c.args.n) (lens_part _ c.requires _ c.contents-c.ensures) }
+    let st = c in record { value = c.contents-c.ensures; bytes_after = c.write.ensures ∙ ap (clipped c.args.bytes.now c.args.at) (bodies_part _ c.requires _ c.contents-c.ensures); lens_after = c.widen.ensures ∙ ap (clipped c.args.lens.now c.args.n) (lens_part _ c.requires _ c.contents-c.ensures) }

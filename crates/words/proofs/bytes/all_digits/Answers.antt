@@ -1,21 +1,12 @@
-use Prim.Native.Nat.{◌-◌}
-use native.Mathlib.Omega.{arith}
-use Rattle.laws.specs.Choice.{true_also}
-use Rattle.laws.specs.Fold.{flag_turn, flag_end}
+use Rattle.std.proofs.Common.{rules, tests, ◌∙◌}
+use Rattle.std.proofs.lemmas.Iterator.{YieldsList-from_slice}
+use Rattle.std.proofs.lemmas.Iterator.Search.{all_from_yields_List}
+use Rattle.laws.specs.Chains.{all_every}
 use Rattle.words.specs.Hex.{is_hex}
 use Rattle.words.proofs.bytes.all_digits.Goals as goal
 
-pub loop-i-init : goal.loop-i-init
-loop-i-init c = (omega arith, true_also _)
-
-pub loop-i-preserved : goal.loop-i-preserved
-loop-i-preserved c =
-    let l = c in
-    let a = c.args in
-    (omega arith, flag_turn is_hex a.digits.now c.loop-i.i 0 _ _ (omega arith) c.loop-i.invariant.1 c.and_digit-ok.ensures)
-
 pub returns : goal.returns
+unfolding is_hex
 returns c =
-    let l = c in
-    let a = c.args in
-    flag_end is_hex a.digits.now c.loop-i.i _ (omega arith) c.loop-i.invariant.1
+    let r = all_from_yields_List is_hex _ _ c.all.result c.all.ensures.ran (YieldsList-from_slice c.args.digits.now cc) (λ x b q k. search (rules, tests)) in
+    r ∙ all_every is_hex c.args.digits.now

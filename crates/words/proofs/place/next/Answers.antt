@@ -1,35 +1,18 @@
-use Prim.Native.Nat.{◌-◌}
-use lib.ListN.{take, length-take}
-use mathlib.Core.Path.{refl}
-use native.Mathlib.Omega.{arith}
-use Rattle.words.specs.Place.{is_byte, place_here, place_next, place_none, byte_here, byte_other}
+use Rattle.std.proofs.Common.{rules, tests, ℕ, take, drop, ap, refl, ◌∙◌}
+use Rattle.std.proofs.lemmas.Iterator.{YieldsList-from_slice}
+use Rattle.std.proofs.lemmas.Iterator.Search.{position_from_yields_List}
+use Rattle.laws.specs.Part.{take_min}
+use Rattle.words.specs.Place.{is_byte, place_some, place_nowhere}
 use Rattle.words.proofs.place.next.Goals as goal
 
-pub loop-i-init : goal.loop-i-init
-loop-i-init c = refl
+pub returns-in-Some : goal.returns-in-Some
+unfolding is_byte
+returns-in-Some c =
+    let r = position_from_yields_List (is_byte c.args.stop) _ _ _ c.in-Some.ensures.ran (YieldsList-from_slice c.rest.result.now cc) (λ x b q k. search (rules, tests)) in
+    place_some (is_byte c.args.stop) (take c.args.end c.args.input.now) c.rest.result.now c.args.from c.args.end (c.rest.ensures ∙ ap (λ (n : ℕ). drop c.args.from (take n c.args.input.now)) c.min-last.ensures ∙ ap (drop c.args.from) (take_min c.args.input.now c.args.end _ refl)) c.in-Some.i r
 
-pub returns-then-input-i : goal.returns-then-input-i
-returns-then-input-i c =
-    let i = c in
-    let a = c.args in
-    place_none (is_byte a.stop) (take a.end a.input.now) c.loop-i.i a.end (simp length-take (omega arith)) c.loop-i.invariant
-
-pub returns-then-input-i-2 : goal.returns-then-input-i-2
-returns-then-input-i-2 c =
-    let i = c in
-    let a = c.args in
-    place_here (is_byte a.stop) (take a.end a.input.now) c.loop-i.i a.end (simp length-take (omega arith)) c.loop-i.invariant
-    (byte_here a.stop a.end c.loop-i.i a.input.now (omega arith) c.if-input-i-2.true)
-
-pub loop-i-preserved : goal.loop-i-preserved
-loop-i-preserved c =
-    let i = c in
-    let a = c.args in
-    place_next (is_byte a.stop) (take a.end a.input.now) c.loop-i.i a.end (simp length-take (omega arith)) c.loop-i.invariant
-    (byte_other a.stop a.end c.loop-i.i a.input.now (omega arith) c.if-input-i-2.false)
-
-pub returns : goal.returns
-returns c =
-    let i = c in
-    let a = c.args in
-    place_none (is_byte a.stop) (take a.end a.input.now) c.loop-i.i a.end (simp length-take (omega arith)) c.loop-i.invariant
+pub returns-in-None : goal.returns-in-None
+unfolding is_byte
+returns-in-None c =
+    let r = position_from_yields_List (is_byte c.args.stop) _ _ _ c.in-None.ensures.ran (YieldsList-from_slice c.rest.result.now cc) (λ x b q k. search (rules, tests)) in
+    place_nowhere (is_byte c.args.stop) (take c.args.end c.args.input.now) c.rest.result.now c.args.from c.args.end (c.rest.ensures ∙ ap (λ (n : ℕ). drop c.args.from (take n c.args.input.now)) c.min-last.ensures ∙ ap (drop c.args.from) (take_min c.args.input.now c.args.end _ refl)) r

@@ -1,29 +1,17 @@
-use Prim.Native.Nat.{◌-◌}
-use lib.ListN.{length}
-use mathlib.Core.Path.{refl, sym, ◌∙◌}
-use native.Mathlib.Omega.{arith}
-use Rattle.words.specs.Place.{is_blank, place_here, place_next, place_none}
+use Rattle.std.proofs.Common.{rules, tests, length}
+use Rattle.std.proofs.lemmas.Iterator.{YieldsList-from_slice}
+use Rattle.std.proofs.lemmas.Iterator.Search.{position_from_yields_List}
+use Rattle.words.specs.Place.{is_blank, place_some, place_nowhere}
 use Rattle.words.proofs.place.word_end.Goals as goal
 
-pub loop-i-init : goal.loop-i-init
-loop-i-init c = refl
+pub returns-in-Some : goal.returns-in-Some
+unfolding is_blank
+returns-in-Some c =
+    let r = position_from_yields_List is_blank _ _ _ c.in-Some.ensures.ran (YieldsList-from_slice c.rest.result.now cc) (λ x b q k. search (rules, tests)) in
+    place_some is_blank c.args.line.now c.rest.result.now c.args.from (length c.args.line.now) c.rest.ensures c.in-Some.i r
 
-pub returns-then-blank : goal.returns-then-blank
-returns-then-blank c =
-    let i = c in
-    let a = c.args in
-    place_here is_blank a.line.now c.loop-i.i (length a.line.now) (omega arith) c.loop-i.invariant
-    (sym c.is_blank-blank.ensures ∙ c.if-blank.true)
-
-pub loop-i-preserved : goal.loop-i-preserved
-loop-i-preserved c =
-    let i = c in
-    let a = c.args in
-    place_next is_blank a.line.now c.loop-i.i (length a.line.now) (omega arith) c.loop-i.invariant
-    (sym c.is_blank-blank.ensures ∙ c.if-blank.false)
-
-pub returns : goal.returns
-returns c =
-    let i = c in
-    let a = c.args in
-    place_none is_blank a.line.now c.loop-i.i (length a.line.now) (omega arith) c.loop-i.invariant
+pub returns-in-None : goal.returns-in-None
+unfolding is_blank
+returns-in-None c =
+    let r = position_from_yields_List is_blank _ _ _ c.in-None.ensures.ran (YieldsList-from_slice c.rest.result.now cc) (λ x b q k. search (rules, tests)) in
+    place_nowhere is_blank c.args.line.now c.rest.result.now c.args.from (length c.args.line.now) c.rest.ensures r

@@ -1,30 +1,17 @@
-use Prim.Native.Nat.{◌-◌}
-use lib.ListN.{length}
-use mathlib.Core.Path.{refl, ap}
-use mathlib.Core.Bool.{not}
-use native.Mathlib.Omega.{arith}
-use Rattle.words.specs.Place.{not_blank, place_here, place_next, place_none, blank_told}
+use Rattle.std.proofs.Common.{rules, tests, length}
+use Rattle.std.proofs.lemmas.Iterator.{YieldsList-from_slice}
+use Rattle.std.proofs.lemmas.Iterator.Search.{position_from_yields_List}
+use Rattle.words.specs.Place.{not_blank, place_some, place_nowhere}
 use Rattle.words.proofs.place.word_start.Goals as goal
 
-pub loop-i-init : goal.loop-i-init
-loop-i-init c = refl
+pub returns-in-Some : goal.returns-in-Some
+unfolding not_blank
+returns-in-Some c =
+    let r = position_from_yields_List not_blank _ _ _ c.in-Some.ensures.ran (YieldsList-from_slice c.rest.result.now cc) (λ x b q k. search (rules, tests)) in
+    place_some not_blank c.args.line.now c.rest.result.now c.args.at (length c.args.line.now) c.rest.ensures c.in-Some.i r
 
-pub returns-then-not-blank : goal.returns-then-not-blank
-returns-then-not-blank c =
-    let i = c in
-    let a = c.args in
-    place_here not_blank a.line.now c.loop-i.i (length a.line.now) (omega arith) c.loop-i.invariant
-    (blank_told _ _ _ c.is_blank-blank.ensures (ap not c.if-not-blank.true))
-
-pub loop-i-preserved : goal.loop-i-preserved
-loop-i-preserved c =
-    let i = c in
-    let a = c.args in
-    place_next not_blank a.line.now c.loop-i.i (length a.line.now) (omega arith) c.loop-i.invariant
-    (blank_told _ _ _ c.is_blank-blank.ensures (ap not c.if-not-blank.false))
-
-pub returns : goal.returns
-returns c =
-    let i = c in
-    let a = c.args in
-    place_none not_blank a.line.now c.loop-i.i (length a.line.now) (omega arith) c.loop-i.invariant
+pub returns-in-None : goal.returns-in-None
+unfolding not_blank
+returns-in-None c =
+    let r = position_from_yields_List not_blank _ _ _ c.in-None.ensures.ran (YieldsList-from_slice c.rest.result.now cc) (λ x b q k. search (rules, tests)) in
+    place_nowhere not_blank c.args.line.now c.rest.result.now c.args.at (length c.args.line.now) c.rest.ensures r

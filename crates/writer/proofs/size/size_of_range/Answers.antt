@@ -1,16 +1,17 @@
-use mathlib.Core.Path.{sym, ◌∙◌}
+use mathlib.Core.Path.{sym, ◌∙◌, ap}
 use native.Mathlib.Omega.{arith}
-use Rattle.writer.specs.Entries.{sized_no, sized_unheld, sized_yes}
+use Rattle.std.specs.Prelude.{Ok}
+use Rattle.laws.specs.Choice.{ask}
+use Rattle.refusal.specs.Refusal.{unless_ok}
+use Rattle.writer.specs.Entries.{ask_entries, unheld, asked_entries, held_fits, held_size}
 use Rattle.writer.proofs.size.size_of_range.Goals as goal
 
-pub returns-then-n-lt1 : goal.returns-then-n-lt1
-returns-then-n-lt1 c = sized_no _ _ _ (λ f. omega arith)
-
-pub returns-then-n-gt-MOST_ENTRIES : goal.returns-then-n-gt-MOST_ENTRIES
-returns-then-n-gt-MOST_ENTRIES c = sized_no _ _ _ (λ f. omega arith)
-
 pub returns-in_default : goal.returns-in_default
-returns-in_default c = sized_unheld _ _ _ (sym c.in_default.is ∙ c.entries_held-h.ensures)
+unfolding ask_entries ask
+returns-in_default c = search (unheld _ _ _ (sym c.in_default.is ∙ c.entries_held.ensures))
 
 pub returns : goal.returns
-returns c = sized_yes _ _ _ _ _ (omega arith) (omega arith) (sym c.in-Bytes.is ∙ c.entries_held-h.ensures) c.blocks_of-blocks.ensures
+returns c =
+    let h = sym c.in-Some.is ∙ c.entries_held.ensures in
+    ap Ok (held_size _ _ _ _ _ (omega arith) (omega arith) h c.blocks_of-blocks.ensures)
+    ∙ sym (unless_ok _ _ (asked_entries _ _ _ (held_fits _ _ _ _ _ (omega arith) (omega arith) h c.blocks_of-blocks.ensures)))

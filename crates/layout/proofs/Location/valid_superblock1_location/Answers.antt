@@ -1,7 +1,0 @@
-use Rattle.laws.specs.Choice.{tests}
-use Rattle.layout.specs.Location.{valid_superblock1_location}
-use Rattle.layout.proofs.Location.valid_superblock1_location.Goals as goal
-
-pub returns : goal.returns
-unfolding valid_superblock1_location
-returns c = search (tests, ← c.same.ensures, ← c.superblock1-first.ensures)

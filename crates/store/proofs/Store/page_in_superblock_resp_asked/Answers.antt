@@ -1,8 +1,0 @@
-use Rattle.store.specs.Laws.Answers.{both_is}
-use Rattle.store.specs.Laws.Memory.{content_is}
-use mathlib.Core.Path.{◌∙◌, ap}
-use Rattle.store.specs.Steps.{both_by}
-use Rattle.store.proofs.Store.page_in_superblock_resp_asked.Goals as goal
-
-pub returns : goal.returns
-returns c = c.both.ensures ∙ ap (both_by _ _) c.page_in_superblock_resp_asked-stepped.ensures ∙ both_is _ _ _ _ _ _ ∙ content_is _ _ _ _ _ _ c.content-read.ensures

@@ -1,8 +1,0 @@
-use Rattle.store.specs.Laws.Answers.{both_is}
-use Rattle.store.specs.Laws.Memory.{slot_is}
-use mathlib.Core.Path.{◌∙◌, ap}
-use Rattle.store.specs.Steps.{both_by}
-use Rattle.store.proofs.Store.write_back_superblock_resp_asked.Goals as goal
-
-pub returns : goal.returns
-returns c = c.both.ensures ∙ ap (both_by _ _) c.write_back_superblock_resp_asked-stepped.ensures ∙ both_is _ _ _ _ _ _ ∙ slot_is _ _ _ _ c.slot_of-which.ensures
