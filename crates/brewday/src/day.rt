@@ -1,9 +1,9 @@
 // One line of the day: its command, the step, its row.
 use super::lent::Memory;
 use super::{command, row};
-use calls::Step;
+use calls::{Given, Step};
 use layout::Geometry;
-use store::Store;
+use store::{LentMut, Store};
 
 // The store so far, the place of the next line, and the number of the last one.
 #[derive(Clone, Copy)]
@@ -35,22 +35,22 @@ fn play(
         return s;
     };
     let none = [0u8; 1];
-    let r = calls::step(
-        s,
-        geometry(),
-        x,
+    let given = Given {
         brought,
         sizes,
-        &none,
-        &none,
-        &mut memory.bytes,
-        &mut memory.lens,
-        &mut memory.pieces,
-        &mut memory.rbytes,
-        &mut memory.rlens,
-        &mut memory.blocks,
-        &mut memory.marks,
-    );
+        picture: &none,
+        pictured: &none,
+    };
+    let mut lent = LentMut {
+        bytes: &mut memory.bytes,
+        lens: &mut memory.lens,
+        pieces: &mut memory.pieces,
+        rbytes: &mut memory.rbytes,
+        rlens: &mut memory.rlens,
+        blocks: &mut memory.blocks,
+        marks: &mut memory.marks,
+    };
+    let r = calls::step(s, geometry(), x, given, &mut lent);
     let next = r.store;
     row::print(rt, n, r.answer, next.machine);
     next

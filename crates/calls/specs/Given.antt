@@ -1,5 +1,6 @@
 -- What a call brings beside its arguments.
 use Rattle.std.specs.Prelude.{ℕ, List}
+use Rattle.calls.specs.declared.calls.Given as slices
 
 -- entries, and the picture of a crash
 pub record Given : Type 0 where
@@ -10,3 +11,7 @@ pub record Given : Type 0 where
 
 abbrev pub given : (brought sizes picture pictured : List ℕ) → Given
 given brought sizes picture pictured = record { brought = brought; sizes = sizes; picture = picture; pictured = pictured }
+
+-- what the code's slices hold
+abbrev pub given_in : slices.Given → Given
+given_in v = given v.brought.now v.sizes.now v.picture.now v.pictured.now

@@ -1,7 +1,16 @@
 // A step of the store with its arguments: machine steps in the order of 000's Step, ask again, landings, crashes.
 use layout::Location;
 
-// A call with its arguments. Entries are lent beside it, and so is the picture of a crash; a read's answer says whether it is whole.
+// What a call brings beside its arguments: entries, and the picture of a crash.
+#[derive(Clone, Copy)]
+pub struct Given<'a> {
+    pub brought: &'a [u8],
+    pub sizes: &'a [u16],
+    pub picture: &'a [u8],
+    pub pictured: &'a [u8],
+}
+
+// A call with its arguments; a read's answer says whether it is whole.
 #[derive(Clone, Copy)]
 pub enum Step {
     WriteBackJournalReq { id1: u64, id2: Option<u64> },

@@ -1,6 +1,6 @@
 // The step that comes next.
 ghost use Rattle.std.specs.Prelude.{◌≡◌};
-ghost use Rattle.store.specs.Lent.{lent};
+ghost use Rattle.store.specs.Lent.{lent_of};
 ghost use Rattle.driver.specs.Driver.{slot_step, piece_step, superblocks_step, other_step, loading_step, next_step};
 
 use super::ids::least_new;
@@ -10,7 +10,7 @@ use layout::Geometry;
 use loading::{LoadingOther, LoadingSuperblock, Piece, SlotRead};
 use machine::Kind;
 use refusal::Refusal;
-use store::Store;
+use store::{Lent, Store};
 
 // A slot's step; where it was read, the one that comes after it.
 fn slot_step(new: u64, which: u64, slot: SlotRead, after: Step) -> Step
@@ -99,19 +99,9 @@ fn loading_step(g: Geometry, s: Store) -> Result<Step, Refusal>
 }
 
 // The step that brings a store further that loads: it is taken by `calls::step`, which asks the same questions of the same slices.
-pub fn next_step(
-    s: Store,
-    g: Geometry,
-    bytes: &[u8],
-    lens: &[u16],
-    pieces: &[u8],
-    rbytes: &[u8],
-    rlens: &[u16],
-    blocks: &[u8],
-    marks: &[u8],
-) -> Result<Step, Refusal>
-    ensures { result ≡ next_step g (lent bytes.now lens.now pieces.now rbytes.now rlens.now blocks.now marks.now) s }
+pub fn next_step(s: Store, g: Geometry, lent: Lent<'_>) -> Result<Step, Refusal>
+    ensures { result ≡ next_step g (lent_of lent.entry) s }
 {
-    s.ask_state(g, bytes, lens, pieces, rbytes, rlens, blocks, marks)?;
+    s.ask_state(g, lent)?;
     loading_step(g, s)
 }

@@ -2,6 +2,7 @@
 use super::line::Handed;
 use super::state;
 use refusal::number_of;
+use store::Lent;
 
 const FIRST: u64 = 1;
 
@@ -21,18 +22,19 @@ pub(crate) fn of_store(h: Handed) -> u8 {
     let rlens = [0u16; 32768];
     let blocks = [0u8; 32768];
     let marks = [1u8; 8];
+    let machine = machine::Lent {
+        bytes: &bytes,
+        lens: &lens,
+        pieces: &pieces,
+        rbytes: &rbytes,
+        rlens: &rlens,
+    };
+    let lent = Lent {
+        machine,
+        blocks: &blocks,
+        marks: &marks,
+    };
     let s = state::store(h);
-    let r = steps::write_back_journal_resp(
-        s,
-        state::geometry(),
-        FIRST,
-        &bytes,
-        &lens,
-        &pieces,
-        &rbytes,
-        &rlens,
-        &blocks,
-        &marks,
-    );
+    let r = steps::write_back_journal_resp(s, state::geometry(), FIRST, lent);
     number_of(&r.answer)
 }

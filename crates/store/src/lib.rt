@@ -1,5 +1,6 @@
 // The store: the machine (source 000) and the disk (source 001) together (source 004). The public face:
 //   Store                              the state, by value; its memory is lent beside it
+//   Lent, LentMut                      the memory that is lent to it: to look at, and to alter
 //   Store::initial                     the machine at Init, and a disk without requests
 //   Store::ask, Store::ask_state       questions 1 and 2, of all that a call is handed; what was found in pending memory
 //   StoreStepped                       what a step answers: the disk operation that was done, beside the next store, or a refusal, beside the store as it was
@@ -9,11 +10,13 @@
 #![tactic(auto, using(refusal::specs::Refusal::questions, crate::specs::Laws::Answers::both_is, crate::specs::Laws::Answers::both_zero), unfolding(laws::specs::Choice::and_then, laws::specs::Choice::ask, crate::specs::Lent::ask_rest, crate::specs::Lent::ask_store))]
 
 mod both;
+mod lending;
 mod plain;
 mod questions;
 mod with_memory;
 
 use disk::Disk;
+pub use lending::{Lent, LentMut};
 use machine::Machine;
 use refusal::Refusal;
 use superblock::DiskOp;

@@ -2,12 +2,11 @@
 ghost use Rattle.std.specs.Prelude.{◌≡◌};
 ghost use Rattle.refusal.specs.Refusal.{ok_unless, asked};
 ghost use Rattle.machine.specs.Questions.{bodies_of};
-ghost use Rattle.store.specs.Lent.{lent, ask_rest, ask_store};
+ghost use Rattle.store.specs.Lent.{lent_of, ask_rest, ask_store};
 
-use super::Store;
+use super::{Lent, Store};
 use joined::joined;
 use layout::Geometry;
-use machine::Lent;
 use ready::Bodies;
 use refusal::Refusal;
 
@@ -25,47 +24,20 @@ impl Store {
     }
 
     // Questions 1 and 2, and what was found in pending memory.
-    pub fn ask(
-        self,
-        g: Geometry,
-        bytes: &[u8],
-        lens: &[u16],
-        pieces: &[u8],
-        rbytes: &[u8],
-        rlens: &[u16],
-        blocks: &[u8],
-        marks: &[u8],
-    ) -> Result<Bodies, Refusal>
-        ensures { result ≡ ok_unless (ask_store g (lent bytes.now lens.now pieces.now rbytes.now rlens.now blocks.now marks.now) self) (bodies_of lens.now self.machine) }
+    pub fn ask(self, g: Geometry, lent: Lent<'_>) -> Result<Bodies, Refusal>
+        ensures { result ≡ ok_unless (ask_store g (lent_of lent.entry) self) (bodies_of (lent_of lent.entry).lens self.machine) }
     {
-        journal::ask_journal(g, blocks, marks)?;
-        let lent = Lent {
-            bytes,
-            lens,
-            pieces,
-            rbytes,
-            rlens,
-        };
-        let bodies = self.machine.ask(g, lent)?;
+        journal::ask_journal(g, lent.blocks, lent.marks)?;
+        let bodies = self.machine.ask(g, lent.machine)?;
         self.ask_rest(g)?;
         Ok(bodies)
     }
 
     // The same without what was found.
-    pub fn ask_state(
-        self,
-        g: Geometry,
-        bytes: &[u8],
-        lens: &[u16],
-        pieces: &[u8],
-        rbytes: &[u8],
-        rlens: &[u16],
-        blocks: &[u8],
-        marks: &[u8],
-    ) -> Result<(), Refusal>
-        ensures { result ≡ asked (ask_store g (lent bytes.now lens.now pieces.now rbytes.now rlens.now blocks.now marks.now) self) }
+    pub fn ask_state(self, g: Geometry, lent: Lent<'_>) -> Result<(), Refusal>
+        ensures { result ≡ asked (ask_store g (lent_of lent.entry) self) }
     {
-        self.ask(g, bytes, lens, pieces, rbytes, rlens, blocks, marks)?;
+        self.ask(g, lent)?;
         Ok(())
     }
 }

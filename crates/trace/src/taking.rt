@@ -1,12 +1,12 @@
 // A step, or the one that the loading driver names, and its row.
 use super::lent::Memory;
 use super::row;
-use calls::Step;
+use calls::{Given, Step};
 use digest::check_number;
 use journal::bytes_of;
 use layout::Geometry;
 use refusal::Refusal;
-use store::Store;
+use store::{Lent, LentMut, Store};
 use superblock::DiskOp;
 
 // The row: what was answered, and what is visible of the store then.
@@ -25,15 +25,18 @@ fn show(
     let marks: &[u8] = &memory.marks;
     let size = bytes_of(g.blocks, pieces.len());
     let count = (g.blocks as usize).min(marks.len());
+    let machine = machine::Lent {
+        bytes: &memory.bytes,
+        lens: &memory.lens,
+        pieces: &pieces[..size],
+        rbytes: &rbytes[..size],
+        rlens: &rlens[..size],
+    };
     let h = check_number(
         s.disk.slots,
         s.machine,
         g,
-        &memory.bytes,
-        &memory.lens,
-        &pieces[..size],
-        &rbytes[..size],
-        &rlens[..size],
+        machine,
         &blocks[..size],
         &marks[..count],
     );
@@ -59,22 +62,22 @@ pub(crate) fn step(
     let marks: &mut [u8] = &mut memory.marks;
     let size = bytes_of(g.blocks, pieces.len());
     let count = (g.blocks as usize).min(marks.len());
-    let r = calls::step(
-        s,
-        g,
-        x,
+    let given = Given {
         brought,
         sizes,
-        &none,
-        &none,
-        &mut memory.bytes,
-        &mut memory.lens,
-        &mut pieces[..size],
-        &mut rbytes[..size],
-        &mut rlens[..size],
-        &mut blocks[..size],
-        &mut marks[..count],
-    );
+        picture: &none,
+        pictured: &none,
+    };
+    let mut lent = LentMut {
+        bytes: &mut memory.bytes,
+        lens: &mut memory.lens,
+        pieces: &mut pieces[..size],
+        rbytes: &mut rbytes[..size],
+        rlens: &mut rlens[..size],
+        blocks: &mut blocks[..size],
+        marks: &mut marks[..count],
+    };
+    let r = calls::step(s, g, x, given, &mut lent);
     show(rt, n, r.answer, r.store, g, memory);
     r.store
 }
@@ -98,15 +101,17 @@ fn named(s: Store, g: Geometry, memory: &Memory) -> Result<Step, Refusal> {
     let marks: &[u8] = &memory.marks;
     let size = bytes_of(g.blocks, pieces.len());
     let count = (g.blocks as usize).min(marks.len());
-    driver::next_step(
-        s,
-        g,
-        &memory.bytes,
-        &memory.lens,
-        &pieces[..size],
-        &rbytes[..size],
-        &rlens[..size],
-        &blocks[..size],
-        &marks[..count],
-    )
+    let machine = machine::Lent {
+        bytes: &memory.bytes,
+        lens: &memory.lens,
+        pieces: &pieces[..size],
+        rbytes: &rbytes[..size],
+        rlens: &rlens[..size],
+    };
+    let lent = Lent {
+        machine,
+        blocks: &blocks[..size],
+        marks: &marks[..count],
+    };
+    driver::next_step(s, g, lent)
 }
