@@ -31,37 +31,35 @@ pub(crate) fn disk_count(rt: &HostRuntime) -> usize {
     (n - 1) / 3
 }
 
-// The number that argument i says; 0 where it says none.
-fn number(rt: &HostRuntime, i: usize) -> u64 {
+// The number from 1 to `most` that argument i says, if it says one.
+fn number(rt: &HostRuntime, i: usize, most: u64) -> Option<u64> {
     let mut word = [0u8; 64];
     let Ok(n) = rt.arg(i, &mut word) else {
-        return 0;
+        return None;
     };
     let all = Word { from: 0, to: n };
-    words::decimal(&word[..n], all).unwrap_or(0)
-}
-
-fn within(v: u64, most: u64) -> bool {
-    0 < v && v <= most
+    let v = words::decimal(&word[..n], all)?;
+    if 0 < v && v <= most {
+        return Some(v);
+    }
+    None
 }
 
 // N and T of the disk whose file is argument i; none where a line said which number is wrong.
 pub(crate) fn geometry(rt: &HostRuntime, i: usize, name: &[u8]) -> Option<Geometry> {
     let j = i.saturating_add(1);
     let k = i.saturating_add(2);
-    let blocks = number(rt, j);
-    let table = number(rt, k);
-    if !within(blocks, Geometry::MOST_BLOCKS) {
+    let Some(blocks) = number(rt, j, Geometry::MOST_BLOCKS) else {
         said::not_number(rt, name, b": N is a number from 1 to 4096, not ", j);
         return None;
-    }
+    };
     if MOST_BLOCKS < blocks {
         said::too_many(rt, name);
         return None;
     }
-    if !within(table, Geometry::MOST_TABLE) {
+    let Some(table) = number(rt, k, Geometry::MOST_TABLE) else {
         said::not_number(rt, name, b": T is a number from 1 to 16777216, not ", k);
         return None;
-    }
+    };
     Some(Geometry { blocks, table })
 }

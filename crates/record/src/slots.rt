@@ -3,7 +3,7 @@ use super::rows;
 use super::rows::{Rows, put_number};
 use interval::JournalInterval;
 use layout::Geometry;
-use refusal::Refusal;
+use refusal::{Refusal, number_of};
 use sector::{Selection, select};
 use superblock::{Superblock, select_superblock};
 use text::put;
@@ -18,7 +18,7 @@ pub(crate) struct Sectors {
 // 2 where the superblock isn't well formed, and its five numbers.
 fn put_superblock(g: Geometry, s: Superblock, text: &mut [u8], at: usize) -> usize {
     let loc = s.indirectionTableLoc;
-    let a = put_number(well_formed(g, s), text, at);
+    let a = put_number(number_of(&ask_superblock(g, s)) as u64, text, at);
     let b = put_number(s.counter, text, a);
     let c = put_number(s.journalStart, text, b);
     let d = put_number(s.journalLen, text, c);
@@ -26,12 +26,12 @@ fn put_superblock(g: Geometry, s: Superblock, text: &mut [u8], at: usize) -> usi
     put_number(loc.len, text, e)
 }
 
-// 0, or the number of a no to question 2.
-fn well_formed(g: Geometry, s: Superblock) -> u64 {
+// Question 2 of a superblock.
+fn ask_superblock(g: Geometry, s: Superblock) -> Result<(), Refusal> {
     if s.well_formed(g) {
-        return 0;
+        return Ok(());
     }
-    Refusal::State.number() as u64
+    Err(Refusal::State)
 }
 
 fn put_read(g: Geometry, r: Result<Superblock, Refusal>, text: &mut [u8], at: usize) -> usize {

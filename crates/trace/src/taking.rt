@@ -9,15 +9,8 @@ use refusal::Refusal;
 use store::{Lent, LentMut, Store};
 use superblock::DiskOp;
 
-// The row: what was answered, and what is visible of the store then.
-fn show(
-    rt: &HostRuntime,
-    n: u64,
-    answer: Result<DiskOp, Refusal>,
-    s: Store,
-    g: Geometry,
-    memory: &Memory,
-) {
+// What a store of this geometry is lent of it, to look at.
+fn lent(memory: &Memory, g: Geometry) -> Lent<'_> {
     let pieces: &[u8] = &memory.pieces;
     let rbytes: &[u8] = &memory.rbytes;
     let rlens: &[u16] = &memory.rlens;
@@ -32,14 +25,24 @@ fn show(
         rbytes: &rbytes[..size],
         rlens: &rlens[..size],
     };
-    let h = check_number(
-        s.disk.slots,
-        s.machine,
-        g,
+    Lent {
         machine,
-        &blocks[..size],
-        &marks[..count],
-    );
+        blocks: &blocks[..size],
+        marks: &marks[..count],
+    }
+}
+
+// The row: what was answered, and what is visible of the store then.
+fn show(
+    rt: &HostRuntime,
+    n: u64,
+    answer: Result<DiskOp, Refusal>,
+    s: Store,
+    g: Geometry,
+    memory: &Memory,
+) {
+    let l = lent(memory, g);
+    let h = check_number(s.disk.slots, s.machine, g, l.machine, l.blocks, l.marks);
     row::print(rt, n, answer, s.machine, h);
 }
 
@@ -68,7 +71,7 @@ pub(crate) fn step(
         picture: &none,
         pictured: &none,
     };
-    let mut lent = LentMut {
+    let mut all = LentMut {
         bytes: &mut memory.bytes,
         lens: &mut memory.lens,
         pieces: &mut pieces[..size],
@@ -77,41 +80,18 @@ pub(crate) fn step(
         blocks: &mut blocks[..size],
         marks: &mut marks[..count],
     };
-    let r = calls::step(s, g, x, given, &mut lent);
+    let r = calls::step(s, g, x, given, &mut all);
     show(rt, n, r.answer, r.store, g, memory);
     r.store
 }
 
 // The step that the driver names; it brings nothing.
 pub(crate) fn drive(rt: &HostRuntime, s: Store, g: Geometry, n: u64, memory: &mut Memory) -> Store {
-    match named(s, g, memory) {
+    match driver::next_step(s, g, lent(memory, g)) {
         Ok(x) => step(rt, s, g, n, x, &[0; 1], &[0; 1], memory),
         Err(no) => {
             show(rt, n, Err(no), s, g, memory);
             s
         },
     }
-}
-
-fn named(s: Store, g: Geometry, memory: &Memory) -> Result<Step, Refusal> {
-    let pieces: &[u8] = &memory.pieces;
-    let rbytes: &[u8] = &memory.rbytes;
-    let rlens: &[u16] = &memory.rlens;
-    let blocks: &[u8] = &memory.blocks;
-    let marks: &[u8] = &memory.marks;
-    let size = bytes_of(g.blocks, pieces.len());
-    let count = (g.blocks as usize).min(marks.len());
-    let machine = machine::Lent {
-        bytes: &memory.bytes,
-        lens: &memory.lens,
-        pieces: &pieces[..size],
-        rbytes: &rbytes[..size],
-        rlens: &rlens[..size],
-    };
-    let lent = Lent {
-        machine,
-        blocks: &blocks[..size],
-        marks: &marks[..count],
-    };
-    driver::next_step(s, g, lent)
 }
