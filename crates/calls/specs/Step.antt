@@ -9,7 +9,7 @@ use Rattle.machine.specs.Questions.{bodies_of}
 use Rattle.machine.specs.Loading.{ask_loaded}
 use Rattle.machine.specs.Working.{given_of, ask_advance_step}
 use Rattle.store.specs.declared.Store.{Store}
-use Rattle.store.specs.declared.StoreStepped.{StoreStepped}
+use Rattle.store.specs.Store.{StoreStepped}
 use Rattle.store.specs.Store.{accepted}
 use Rattle.store.specs.Lent.{Lent, ask_store}
 use Rattle.store.specs.Steps as one

@@ -41,22 +41,22 @@ with_journal_writes d x = record { slots = d.slots; superblockReads = d.superblo
 
 -- what a call answers beside the disk: no value, a superblock or damaged, the interval that was read
 abbrev pub DiskStepped : Type 0
-DiskStepped = Stepped ⊤
+DiskStepped = Stepped ⊤ Refusal
 
 abbrev pub SuperblockAcked : Type 0
-SuperblockAcked = Stepped (code.Option Superblock)
+SuperblockAcked = Stepped (code.Option Superblock) Refusal
 
 abbrev pub JournalAcked : Type 0
-JournalAcked = Stepped JournalInterval
+JournalAcked = Stepped JournalInterval Refusal
 
 -- one number decides: 0 is done, with the value and the next disk; another is a refusal, with the disk as it was
-abbrev pub refused : {A : Type 0} → Disk → Refusal → Stepped A
+abbrev pub refused : {A E : Type 0} → Disk → E → Stepped A E
 refused d why = record { answer = Err why; disk = d }
 
-abbrev pub done : {A : Type 0} → A → Disk → Stepped A
+abbrev pub done : {A E : Type 0} → A → Disk → Stepped A E
 done x d = record { answer = Ok x; disk = d }
 
-unfoldable pub answered_with : {A : Type 0} → ℕ → A → Disk → Disk → Stepped A
+unfoldable pub answered_with : {A : Type 0} → ℕ → A → Disk → Disk → Stepped A Refusal
 answered_with q x next d = cond (eqb q 0) (done x next) (refused d (refusal q))
 
 -- the same where there is no value

@@ -3,7 +3,6 @@ ghost use Rattle.std.specs.Prelude.{◌≡◌};
 ghost use Rattle.disk.specs.Disk.{idle_disk, refused, done};
 
 use super::{Disk, Stepped};
-use refusal::Refusal;
 use requests::{Slots, SuperblockReads, SuperblockWrites};
 use tables::{IdTable, IntervalTable};
 
@@ -29,8 +28,8 @@ impl Disk {
         }
     }
 
-    // A no, and the disk as it was.
-    pub fn refused<T>(self, no: Refusal) -> Stepped<T>
+    // A no, whatever says it, and the disk as it was.
+    pub fn refused<T, E>(self, no: E) -> Stepped<T, E>
         ensures { result ≡ refused self no }
     {
         Stepped {
@@ -40,7 +39,7 @@ impl Disk {
     }
 
     // A yes, with what was asked for: this, the next disk.
-    pub(crate) fn done<T>(self, value: T) -> Stepped<T>
+    pub(crate) fn done<T, E>(self, value: T) -> Stepped<T, E>
         ensures { result ≡ done value self }
     {
         Stepped {

@@ -10,7 +10,7 @@
 //   step                                           one step over the whole disk operation type
 //   Stepped                                        what they answer, beside the disk after it: a value, or a no and the disk as it was;
 //   DiskStepped, SuperblockAcked, JournalAcked     no value, a superblock or damaged, the interval that was read
-//   refused                                        a no, for a caller that has asked itself
+//   refused                                        a no, for a caller that has asked itself, in the caller's own words
 // Each of these operations asks every question. One named `.._asked` is a part of an operation for a step that has asked questions 1 and 2
 // itself: it asks the others, decides by value and on shared slices, and leaves lent memory to journal's `write_blocks`, `set_marks` and
 // `copy_blocks`; `decide_asked` is such a part for any operation. Every function is total.
@@ -41,18 +41,18 @@ pub struct Disk {
     pub journalWrites: IntervalTable,
 }
 
-// What an operation answers, and the disk after it: after a no, the disk as it was.
+// What an operation answers, and the disk after it: after a no, the disk as it was. A disk's own no is a `Refusal`.
 #[derive(Clone, Copy)]
-pub struct Stepped<T> {
-    pub answer: Result<T, Refusal>,
+pub struct Stepped<T, E> {
+    pub answer: Result<T, E>,
     pub disk: Disk,
 }
 
-pub type DiskStepped = Stepped<()>;
+pub type DiskStepped = Stepped<(), Refusal>;
 
-pub type SuperblockAcked = Stepped<Option<Superblock>>;
+pub type SuperblockAcked = Stepped<Option<Superblock>, Refusal>;
 
-pub type JournalAcked = Stepped<JournalInterval>;
+pub type JournalAcked = Stepped<JournalInterval, Refusal>;
 
 // What an operation touches of lent blocks: a journal write sets some, a journal read's answer copies some, and no other touches any.
 #[derive(Clone, Copy)]

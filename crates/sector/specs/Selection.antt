@@ -1,6 +1,5 @@
 -- Which of two sectors a store would load from, and why: by the source's selection where both are read, and none where one is refused.
 use Rattle.std.specs.Prelude.{◌≡◌, ℕ, Bool, true, false, cond, ◌==◌, refl, Result, Ok, Err}
-use Rattle.refusal.specs.declared.Refusal.{Refusal}
 use Rattle.superblock.specs.declared.Superblock.{Superblock}
 use Rattle.superblock.specs.Superblock.{increments1, select_superblock_index}
 use Rattle.sector.specs.declared.Selection.{Selection}
@@ -13,7 +12,7 @@ by_counters first second =
     (cond (increments1 second first) selects.FirstFollows
     selects.NeitherFollows))
 
-unfoldable pub selection : Result Superblock Refusal → Result Superblock Refusal → Selection
+unfoldable pub selection : {E : Type 0} → Result Superblock E → Result Superblock E → Selection
 selection (Ok s) (Ok t) = by_counters s.counter t.counter
 selection (Ok s) (Err q) = selects.SecondRefused
 selection (Err p) (Ok t) = selects.FirstRefused
@@ -29,9 +28,9 @@ slot_of selects.FirstRefused = 0
 slot_of selects.SecondRefused = 0
 slot_of selects.BothRefused = 0
 
-pub selects_loaded : (s t : Superblock) → slot_of (selection (Ok s) (Ok t)) ≡ select_superblock_index s t
+pub selects_loaded : (E : Type 0) (s t : Superblock) → slot_of (selection {E = E} (Ok s) (Ok t)) ≡ select_superblock_index s t
 unfolding selection by_counters slot_of select_superblock_index
-selects_loaded s t = go (increments1 s.counter t.counter) (s.counter == t.counter) (increments1 t.counter s.counter)
+selects_loaded E s t = go (increments1 s.counter t.counter) (s.counter == t.counter) (increments1 t.counter s.counter)
   where
     go : (a b c : Bool) → slot_of (cond a selects.SecondFollows (cond b selects.EqualCounters (cond c selects.FirstFollows selects.NeitherFollows))) ≡ cond a 1 0
     go true b c = refl

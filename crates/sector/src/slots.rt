@@ -3,7 +3,6 @@ ghost use Rattle.std.specs.Prelude.{◌≡◌};
 ghost use Rattle.sector.specs.Selection.{by_counters, selection};
 
 use super::Selection;
-use refusal::Refusal;
 use superblock::{Superblock, increments1};
 
 fn by_counters(first: u64, second: u64) -> Selection
@@ -21,7 +20,8 @@ fn by_counters(first: u64, second: u64) -> Selection
     Selection::NeitherFollows
 }
 
-pub fn select(first: Result<Superblock, Refusal>, second: Result<Superblock, Refusal>) -> Selection
+// Whatever a refused sector is refused with: the answer doesn't look at it.
+pub fn select<E: Copy>(first: Result<Superblock, E>, second: Result<Superblock, E>) -> Selection
     ensures { result ≡ selection first second }
 {
     match (first, second) {

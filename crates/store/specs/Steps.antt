@@ -34,7 +34,7 @@ use Rattle.disk.specs.Next.{land_next}
 use Rattle.crash.specs.Picture.{crashed_blocks, crashed_marks}
 use Rattle.crash.specs.Whole.{crashed_disk}
 use Rattle.store.specs.declared.Store.{Store}
-use Rattle.store.specs.declared.StoreStepped.{StoreStepped}
+use Rattle.store.specs.Store.{StoreStepped}
 use Rattle.store.specs.Lent.{Lent, with_pending, with_pieces, with_replay, with_journal}
 use Rattle.store.specs.Store.{store, refused, answered}
 

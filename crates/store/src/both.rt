@@ -5,7 +5,7 @@ ghost use Rattle.disk.specs.Disk.{idle_disk};
 ghost use Rattle.store.specs.Store.{store, store_answered, refused, accepted};
 ghost use Rattle.store.specs.Steps.{both_by};
 
-use super::{Store, StoreStepped};
+use super::{SteppedStore, Store, StoreStepped};
 use disk::Disk;
 use layout::Geometry;
 use machine::{Machine, MachineStepped};
@@ -23,11 +23,11 @@ impl Store {
         Store { machine, disk }
     }
 
-    // A no hands the store back.
-    pub fn refused(self, no: Refusal) -> StoreStepped
+    // A no, whatever says it, hands the store back.
+    pub fn refused<E>(self, no: E) -> SteppedStore<E>
         ensures { result ≡ refused self no }
     {
-        StoreStepped {
+        SteppedStore {
             answer: Err(no),
             store: self,
         }
@@ -37,7 +37,7 @@ impl Store {
     pub(crate) fn accepted(self, op: DiskOp) -> StoreStepped
         ensures { result ≡ accepted op self }
     {
-        StoreStepped {
+        SteppedStore {
             answer: Ok(op),
             store: self,
         }
@@ -47,7 +47,7 @@ impl Store {
     fn answered(self, answer: Result<DiskOp, Refusal>) -> StoreStepped
         ensures { result ≡ store_answered answer self }
     {
-        StoreStepped {
+        SteppedStore {
             answer: answer,
             store: self,
         }

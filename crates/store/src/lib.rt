@@ -28,9 +28,11 @@ pub struct Store {
     pub disk: Disk,
 }
 
-// A step's answer, beside the store after it.
+// A step's answer, beside the store after it. A store's own no is a `Refusal`.
 #[derive(Clone, Copy)]
-pub struct StoreStepped {
-    pub answer: Result<DiskOp, Refusal>,
+pub struct SteppedStore<E> {
+    pub answer: Result<DiskOp, E>,
     pub store: Store,
 }
+
+pub type StoreStepped = SteppedStore<Refusal>;

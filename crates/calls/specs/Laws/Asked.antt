@@ -6,7 +6,7 @@ use Rattle.ready.specs.declared.Bodies.{Bodies}
 use Rattle.refusal.specs.declared.Refusal.{Refusal}
 use Rattle.refusal.specs.Refusal.{ok_unless}
 use Rattle.store.specs.declared.Store.{Store}
-use Rattle.store.specs.declared.StoreStepped.{StoreStepped}
+use Rattle.store.specs.Store.{StoreStepped}
 use Rattle.store.specs.Store.{refused}
 use Rattle.store.specs.Lent.{Lent}
 use Rattle.store.specs.Whole.{bodies}

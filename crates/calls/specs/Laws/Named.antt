@@ -6,7 +6,7 @@ use Rattle.laws.specs.Choice.{and_then, unless, unless_same}
 use Rattle.layout.specs.declared.Geometry.{Geometry}
 use Rattle.layout.specs.declared.Location.{Location}
 use Rattle.store.specs.declared.Store.{Store}
-use Rattle.store.specs.declared.StoreStepped.{StoreStepped}
+use Rattle.store.specs.Store.{StoreStepped}
 use Rattle.store.specs.Lent.{Lent, ask_store}
 use Rattle.store.specs.Whole as method
 use Rattle.calls.specs.declared.calls.Step.{Step}

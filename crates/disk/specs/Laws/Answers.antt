@@ -38,7 +38,7 @@ module _ {A : Type 0} (q : ℕ) (v : A) (next d : Disk) where
   unread_asked why e h = let p = asked_read h in ruin (cc)
 
   pub read_same : (why : Refusal) → (answered_with q v next d).answer ≡ Err why → (answered_with q v next d).disk ≡ d
-  read_same why e = ap (λ (r : Stepped A). r.disk) (asked_unread (unread_asked why e))
+  read_same why e = ap (λ (r : Stepped A Refusal). r.disk) (asked_unread (unread_asked why e))
 
 -- the same where there is no value
 module _ (q : ℕ) (next d : Disk) where
@@ -70,7 +70,7 @@ module _ {A B : Type 0} (q : ℕ) (w : A) (v : B) (next d : Disk) where
   pub answered_first : (r : ℕ) (why : Refusal) → Err why ≡ ok_unless q w → refused d why ≡ answered_with (and_then q r) v next d
   answered_first r why e = answered_no why e ∙ ap (λ (n : ℕ). answered_with n v next d) (sym (and_then_first q r (unless_no q w why (sym e)).0))
 
-  pub answered_next : (r : ℕ) (u : A) (x : Stepped B) → Ok u ≡ ok_unless q w → x ≡ answered_with r v next d → x ≡ answered_with (and_then q r) v next d
+  pub answered_next : (r : ℕ) (u : A) (x : Stepped B Refusal) → Ok u ≡ ok_unless q w → x ≡ answered_with r v next d → x ≡ answered_with (and_then q r) v next d
   answered_next r u x e p = p ∙ ap (λ (n : ℕ). answered_with n v next d) (sym (and_then_done q r (yes q u w e)))
 
 -- and lent memory

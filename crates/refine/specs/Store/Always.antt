@@ -19,7 +19,7 @@ use Rattle.requests.specs.Landing.{ask_land}
 use Rattle.disk.specs.Next.{land_next}
 use Rattle.requests.specs.Laws.Landing.{land_asked}
 use Rattle.store.specs.declared.Store.{Store}
-use Rattle.store.specs.declared.StoreStepped.{StoreStepped}
+use Rattle.store.specs.Store.{StoreStepped}
 use Rattle.store.specs.Store.{store}
 use Rattle.store.specs.Lent.{Lent, machine_lent, ask_store}
 use Rattle.store.specs.Steps.{push_sync, pop_sync, no_op, land}

@@ -14,7 +14,7 @@ use Rattle.source.specs.Meets.{SystemMeets}
 use Rattle.source.specs.Departures.{Event}
 use Rattle.history.specs.Statement.{Tied}
 use Rattle.store.specs.declared.Store.{Store}
-use Rattle.store.specs.declared.StoreStepped.{StoreStepped}
+use Rattle.store.specs.Store.{StoreStepped}
 use Rattle.store.specs.Whole.{asked}
 use Rattle.store.specs.Store.{refused, accepted, answered}
 use Rattle.store.specs.Lent.{Lent}

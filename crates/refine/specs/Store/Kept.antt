@@ -20,7 +20,7 @@ use Rattle.machine.specs.Loading.{ask_loaded, finish_loading_other_phase_machine
 use Rattle.disk.specs.Operation.{operation_next}
 use Rattle.disk.specs.Laws.Questions.{state_asked}
 use Rattle.store.specs.declared.Store.{Store}
-use Rattle.store.specs.declared.StoreStepped.{StoreStepped}
+use Rattle.store.specs.Store.{StoreStepped}
 use Rattle.store.specs.Whole.{asked}
 use Rattle.store.specs.Store as S
 use Rattle.store.specs.Store.{store}

@@ -17,7 +17,7 @@ use Rattle.loading.specs.Which.{is_second}
 use Rattle.machine.specs.declared.Machine.{Machine}
 use Rattle.disk.specs.Operation.{ask_decision, operation_next}
 use Rattle.store.specs.declared.Store.{Store}
-use Rattle.store.specs.declared.StoreStepped.{StoreStepped}
+use Rattle.store.specs.Store.{StoreStepped}
 use Rattle.store.specs.Store.{store}
 use Rattle.store.specs.Lent.{Lent, machine_lent, ask_store}
 use Rattle.store.specs.Steps.{ask_both, both}

@@ -25,7 +25,7 @@ use Rattle.machine.specs.Working.{ask_advance_step, ask_replay_given, ask_replay
 use Rattle.machine.specs.Laws.Entries.{given_number}
 use Rattle.requests.specs.Slots.{Slots}
 use Rattle.store.specs.declared.Store.{Store}
-use Rattle.store.specs.declared.StoreStepped.{StoreStepped}
+use Rattle.store.specs.Store.{StoreStepped}
 use Rattle.store.specs.Lent.{Lent, machine_lent, ask_store}
 use Rattle.store.specs.Steps.{ask_both, both}
 use Rattle.store.specs.Laws.Answers.{next_asked}

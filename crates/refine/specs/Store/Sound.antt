@@ -19,7 +19,7 @@ use Rattle.codec.specs.Format.{format}
 use Rattle.source.specs.Limits.{limits}
 use Rattle.history.specs.Statement.{Takes}
 use Rattle.store.specs.declared.Store.{Store}
-use Rattle.store.specs.declared.StoreStepped.{StoreStepped}
+use Rattle.store.specs.Store.{StoreStepped}
 use Rattle.store.specs.Whole.{asked}
 use Rattle.store.specs.Store.{store, refused, answered}
 use Rattle.store.specs.Lent.{Lent, ask_store, with_pending, with_pieces, with_replay, with_journal}

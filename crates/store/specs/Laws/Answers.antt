@@ -13,7 +13,7 @@ use Rattle.machine.specs.Machine as M
 use Rattle.machine.specs.Laws.Answers as machineAnswers
 use Rattle.disk.specs.Operation.{ask_decision, operation_next}
 use Rattle.store.specs.declared.Store.{Store}
-use Rattle.store.specs.declared.StoreStepped.{StoreStepped}
+use Rattle.store.specs.Store.{StoreStepped}
 use Rattle.store.specs.Store.{store, refused, accepted, answered}
 use Rattle.store.specs.Steps.{ask_both, both, both_by}
 

@@ -15,7 +15,7 @@ use Rattle.writer.specs.Ring.{put_range}
 use Rattle.ready.specs.declared.Bodies.{Bodies}
 use Rattle.machine.specs.Working.{sent_of, left_of, moved_bytes, moved_lens}
 use Rattle.store.specs.declared.Store.{Store}
-use Rattle.store.specs.declared.StoreStepped.{StoreStepped}
+use Rattle.store.specs.Store.{StoreStepped}
 use Rattle.store.specs.Store.{answered}
 use Rattle.store.specs.Steps.{both, ask_write_journal, write_journal, written_interval, written_blocks, written_marks, interval_of}
 use Rattle.store.specs.Laws.Answers as answers

@@ -5,7 +5,7 @@ use Rattle.laws.specs.Choice.{unless, unless_kept, unless_done, asked_yes, asked
 use Rattle.refusal.specs.declared.Refusal.{Refusal}
 use Rattle.refusal.specs.Refusal.{refusal, ok_unless, unless_no, unless_yes}
 use Rattle.store.specs.declared.Store.{Store}
-use Rattle.store.specs.declared.StoreStepped.{StoreStepped}
+use Rattle.store.specs.Store.{StoreStepped}
 use Rattle.store.specs.Store.{refused}
 use Rattle.store.specs.Lent.{Lent}
 use Rattle.store.specs.Whole.{asked}
