@@ -60,20 +60,34 @@ module _ (vs : List JournalInterval) (new old : List ℕ) (i : ℕ) (d : Journal
 
 module _ (t : IntervalTable) (new old : List ℕ) where
   -- after the last row: as many as are in use and the array has
-  module _ (n i size : ℕ) (l : length t.intervals ≡ size) (e : n ≡ min t.count size) (k : length (take n t.intervals) ≤ i) where
-    rows_end : (at : ℕ → ℕ) → after_rows at (take n t.intervals) i new old ≡ picked (λ p. covered t (at p)) new old
+  module _ (i size : ℕ) (l : length t.intervals ≡ size) (e : i ≡ min t.count size) where
+    rows_end : (at : ℕ → ℕ) → after_rows at t.intervals i new old ≡ picked (λ p. covered t (at p)) new old
     unfolding after_rows covered
-    rows_end at =
-        ap (λ (vs : List JournalInterval). picked (λ p. in_rows vs (at p)) new old)
-        (take_all i (take n t.intervals) k ∙ ap (λ (m : ℕ). take m t.intervals) e ∙ take_min t.intervals t.count size l)
+    rows_end at = ap (λ (vs : List JournalInterval). picked (λ p. in_rows vs (at p)) new old) (ap (λ (n : ℕ). take n t.intervals) e ∙ take_min t.intervals t.count size l)
 
-    pub blocks_end : blocks_after (take n t.intervals) i new old ≡ crashed_blocks t new old
+    pub blocks_end : blocks_after t.intervals i new old ≡ crashed_blocks t new old
     unfolding crashed_blocks
     blocks_end = rows_end (λ p. p / 4096)
 
-    pub marks_end : marks_after (take n t.intervals) i new old ≡ crashed_marks t new old
+    pub marks_end : marks_after t.intervals i new old ≡ crashed_marks t new old
     unfolding crashed_marks
     marks_end = rows_end (λ p. p)
+
+  -- the same of the rows in use alone
+  module _ (n i size : ℕ) (l : length t.intervals ≡ size) (e : n ≡ min t.count size) (k : length (take n t.intervals) ≤ i) where
+    taken_rows_end : (at : ℕ → ℕ) → after_rows at (take n t.intervals) i new old ≡ picked (λ p. covered t (at p)) new old
+    unfolding after_rows covered
+    taken_rows_end at =
+        ap (λ (vs : List JournalInterval). picked (λ p. in_rows vs (at p)) new old)
+        (take_all i (take n t.intervals) k ∙ ap (λ (m : ℕ). take m t.intervals) e ∙ take_min t.intervals t.count size l)
+
+    pub taken_blocks_end : blocks_after (take n t.intervals) i new old ≡ crashed_blocks t new old
+    unfolding crashed_blocks
+    taken_blocks_end = taken_rows_end (λ p. p / 4096)
+
+    pub taken_marks_end : marks_after (take n t.intervals) i new old ≡ crashed_marks t new old
+    unfolding crashed_marks
+    taken_marks_end = taken_rows_end (λ p. p)
 
   -- lengths stay
   pub length_crashed_blocks : length (crashed_blocks t new old) ≡ length old

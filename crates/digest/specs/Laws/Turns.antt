@@ -50,11 +50,28 @@ module _ (xs : List ℕ) {n : ℕ} where
 
 -- blocks: the next lie one block further, or none are left
 module _ (blocks marks : List ℕ) {n : ℕ} where
-  pub block_turn : (i at v w : ℕ) → i < length marks → takes v (journal_bytes (drop (i * 4096) blocks) (drop i marks)) ≡ n
+  pub block_turn : (i at next v w : ℕ) → i < length marks → takes v (journal_bytes (drop at blocks) (drop i marks)) ≡ n
+      → w ≡ takes v (marked_bytes (get_or marks i 0) (drop at blocks)) → next ≡ min (at + 4096) (length blocks)
+      → takes w (journal_bytes (drop next blocks) (drop (i + 1) marks)) ≡ n
+  unfolding journal_bytes
+  block_turn i at next v w h e q k =
+      let further : drop next blocks ≡ drop 4096 (drop at blocks) =
+      ap (λ (m : ℕ). drop m blocks) k ∙ drop_min blocks (at + 4096) (length blocks) refl ∙ sym (drop-drop 4096 at blocks) in
+      (λ j. takes (q j) (journal_bytes (further j) (drop (i + 1) marks)))
+      ∙ sym (takes_append v (marked_bytes (get_or marks i 0) (drop at blocks)) (journal_bytes (drop 4096 (drop at blocks)) (drop (i + 1) marks)))
+      ∙ sym (ap (λ (ys : List ℕ). takes v (journal_bytes (drop at blocks) ys)) (drop_step marks i 0 h))
+      ∙ e
+
+  pub block_end : (i at v : ℕ) → length marks ≤ i → takes v (journal_bytes (drop at blocks) (drop i marks)) ≡ n → v ≡ n
+  unfolding takes journal_bytes
+  block_end i at v h e = sym (ap (λ (ys : List ℕ). takes v (journal_bytes (drop at blocks) ys)) (drop_end marks i h)) ∙ e
+
+  -- the same from the place of mark i on
+  pub mark_turn : (i at v w : ℕ) → i < length marks → takes v (journal_bytes (drop (i * 4096) blocks) (drop i marks)) ≡ n
       → at ≡ min (i * 4096) (length blocks) → w ≡ takes v (marked_bytes (get_or marks i 0) (drop at blocks))
       → takes w (journal_bytes (drop ((i + 1) * 4096) blocks) (drop (i + 1) marks)) ≡ n
   unfolding journal_bytes
-  block_turn i at v w h e k q =
+  mark_turn i at v w h e k q =
       let here : drop at blocks ≡ drop (i * 4096) blocks = ap (λ (m : ℕ). drop m blocks) k ∙ drop_min blocks (i * 4096) (length blocks) refl in
       let place : (i + 1) * 4096 ≡ i * 4096 + 4096 = omega arith in
       let further : drop ((i + 1) * 4096) blocks ≡ drop 4096 (drop (i * 4096) blocks) =
@@ -64,6 +81,6 @@ module _ (blocks marks : List ℕ) {n : ℕ} where
       ∙ sym (ap (λ (ys : List ℕ). takes v (journal_bytes (drop (i * 4096) blocks) ys)) (drop_step marks i 0 h))
       ∙ e
 
-  pub block_end : (i v : ℕ) → length marks ≤ i → takes v (journal_bytes (drop (i * 4096) blocks) (drop i marks)) ≡ n → v ≡ n
+  pub mark_end : (i v : ℕ) → length marks ≤ i → takes v (journal_bytes (drop (i * 4096) blocks) (drop i marks)) ≡ n → v ≡ n
   unfolding takes journal_bytes
-  block_end i v h e = sym (ap (λ (ys : List ℕ). takes v (journal_bytes (drop (i * 4096) blocks) ys)) (drop_end marks i h)) ∙ e
+  mark_end i v h e = sym (ap (λ (ys : List ℕ). takes v (journal_bytes (drop (i * 4096) blocks) ys)) (drop_end marks i h)) ∙ e

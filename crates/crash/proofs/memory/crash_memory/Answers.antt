@@ -1,5 +1,5 @@
 use Rattle.std.proofs.Common.{rules, ◌≡◌, ◌∙◌, ◌/◌, length}
-use Rattle.crash.specs.Laws.Memory.{rows_start, blocks_row, marks_row, blocks_end, marks_end}
+use Rattle.crash.specs.Laws.Memory.{rows_start, blocks_row, marks_row, taken_blocks_end, taken_marks_end}
 use Rattle.tables.proofs.Laws.Walks.{mapped}
 use Rattle.crash.proofs.memory.crash_memory.Goals as goal
 use Rattle.crash.proofs.memory.crash_memory.Goals.{Start}
@@ -20,6 +20,6 @@ returns c =
     let l = intervals_long (goal.at.returns c).Start in
     let h = c.loop-v-test.false in
     record {
-      blocks_after = c.loop-v.invariant.0 ∙ blocks_end c.args.writes _ _ _ _ 16 l c.min-n.ensures h;
-      marks_after = c.loop-v.invariant.1 ∙ marks_end c.args.writes _ _ _ _ 16 l c.min-n.ensures h;
+      blocks_after = c.loop-v.invariant.0 ∙ taken_blocks_end c.args.writes _ _ _ _ 16 l c.min-n.ensures h;
+      marks_after = c.loop-v.invariant.1 ∙ taken_marks_end c.args.writes _ _ _ _ 16 l c.min-n.ensures h;
     }
