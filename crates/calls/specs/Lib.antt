@@ -1,3 +1,4 @@
 pub mod Given
 pub mod Step
 pub mod Laws
+pub mod Bounds

@@ -1,3 +1,4 @@
 pub mod Picture
 pub mod Whole
 pub mod Laws
+pub mod Bounds

@@ -5,3 +5,4 @@ pub mod Memory
 pub mod Operation
 pub mod Whole
 pub mod Laws
+pub mod Bounds

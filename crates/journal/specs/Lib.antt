@@ -4,3 +4,4 @@ pub mod Laws
 pub mod Cells
 pub mod Blocks
 pub mod Update
+pub mod Bounds

@@ -4,7 +4,7 @@ use Rattle.std.proofs.Common.{subst}
 use Rattle.refusal.specs.Refusal.{number}
 use Rattle.image.specs.declared.Held.{Held}
 use Rattle.image.specs.declared.Refused.{Refused}
-use Rattle.image.specs.Image.{Lent, unmarked, marked, record_of, record_lent}
+use Rattle.image.specs.Image.{No, Lent, unmarked, marked, ask_record, record_of, record_lent}
 use Rattle.linked.specs.Numbers.{geometry_of}
 
 -- what a record answers
@@ -23,6 +23,13 @@ record_marked n t disk marks l = record_of (geometry_of n t) disk (marked (geome
 
 abbrev pub lent_marked : ℕ → ℕ → (disk marks : List ℕ) → Lent → Lent
 lent_marked n t disk marks l = record_lent (geometry_of n t) disk (marked (geometry_of n t) disk marks l) l
+
+-- what they ask: the first no with its slot, and a 0 where there is none
+abbrev pub asked_by : ℕ → ℕ → List ℕ → Lent → No
+asked_by n t disk l = ask_record (geometry_of n t) disk (unmarked (geometry_of n t) disk l)
+
+abbrev pub asked_marked : ℕ → ℕ → (disk marks : List ℕ) → Lent → No
+asked_marked n t disk marks l = ask_record (geometry_of n t) disk (marked (geometry_of n t) disk marks l)
 
 -- the number of the question that was answered no, or 0; and of which slot, 0 where it is of none
 unfoldable pub number_of : Recorded → ℕ

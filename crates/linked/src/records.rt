@@ -1,7 +1,7 @@
 // The record of a disk: what a load of it comes to.
 ghost use Rattle.std.specs.Prelude.{◌≡◌};
 ghost use Rattle.image.specs.Image.{before, after};
-ghost use Rattle.linked.specs.Records.{record_by, lent_by, record_marked, lent_marked, number_of, slot_of, which_after, found_after, size_after};
+ghost use Rattle.linked.specs.Records.{record_by, asked_by, lent_by, record_marked, asked_marked, lent_marked, number_of, slot_of, which_after, found_after, size_after};
 
 use image::{Held, Refused, record, record_marked};
 use layout::Geometry;
@@ -52,6 +52,7 @@ pub extern "C" fn wokujani_record(
     slot: &mut u64,
 ) -> u8
     ensures value { result ≡ number_of (record_by n t disk.now (before pieces rbytes rlens)) }
+    ensures number { result ≡ (asked_by n t disk.now (before pieces rbytes rlens)).number }
     ensures lent_after { after pieces rbytes rlens ≡ lent_by n t disk.now (before pieces rbytes rlens) }
     ensures which_after { which.new ≡ which_after (record_by n t disk.now (before pieces rbytes rlens)) which.old }
     ensures found_after { found.new ≡ found_after (record_by n t disk.now (before pieces rbytes rlens)) found.old }
@@ -82,6 +83,7 @@ pub extern "C" fn wokujani_record_marked(
     slot: &mut u64,
 ) -> u8
     ensures value { result ≡ number_of (record_marked n t disk.now marks.now (before pieces rbytes rlens)) }
+    ensures number { result ≡ (asked_marked n t disk.now marks.now (before pieces rbytes rlens)).number }
     ensures lent_after { after pieces rbytes rlens ≡ lent_marked n t disk.now marks.now (before pieces rbytes rlens) }
     ensures which_after { which.new ≡ which_after (record_marked n t disk.now marks.now (before pieces rbytes rlens)) which.old }
     ensures found_after { found.new ≡ found_after (record_marked n t disk.now marks.now (before pieces rbytes rlens)) found.old }

@@ -4,3 +4,4 @@ pub mod Pieces
 pub mod Other
 pub mod Superblocks
 pub mod Laws
+pub mod Bounds

@@ -6,3 +6,4 @@ pub mod Working
 pub mod Sync
 pub mod Whole
 pub mod Laws
+pub mod Bounds

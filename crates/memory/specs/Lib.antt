@@ -6,3 +6,4 @@ pub mod PendingLaws
 pub mod ReplayLaws
 pub mod PendingAfter
 pub mod ReplayAfter
+pub mod Bounds

@@ -5,3 +5,4 @@ pub mod CommitSteps
 pub mod FreezeSteps
 pub mod EntrySteps
 pub mod Laws
+pub mod Bounds

@@ -10,4 +10,5 @@ pub mod JournalWrites
 pub mod Step
 pub mod Picture
 pub mod Crash
+pub mod Numbers
 pub mod Bounds

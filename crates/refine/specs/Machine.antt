@@ -21,6 +21,7 @@ pub mod MachineView
 pub mod MachineInitial
 pub mod MachineMeets
 pub mod MachineCalls
+pub mod MachineNumbers
 pub mod MachineKinds
 pub mod MachineSuperblocks
 pub mod MachineSuperblockAnswers

@@ -21,6 +21,7 @@ pub mod Awaiting
 pub mod Reading
 pub mod Writing
 pub mod Sound
+pub mod Numbers
 pub mod Equal
 pub mod History
 pub mod Done

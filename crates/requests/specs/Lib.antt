@@ -4,3 +4,4 @@ pub mod Receive
 pub mod Acknowledge
 pub mod Landing
 pub mod Laws
+pub mod Bounds

@@ -2,3 +2,4 @@ pub mod Rows
 pub mod IdTable
 pub mod IntervalTable
 pub mod SyncTable
+pub mod Bounds
