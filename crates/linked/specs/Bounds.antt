@@ -8,7 +8,7 @@ use Rattle.refusal.specs.Refusal.{small_ask, small_then, number_no}
 use Rattle.superblock.specs.declared.Superblock.{Superblock}
 use Rattle.reader.specs.Entry.{ask_entry}
 use Rattle.reader.specs.Listing.{ask_list}
-use Rattle.sector.specs.Sector.{ask_length, ask_fields}
+use Rattle.sector.specs.Sector.{ask_length, ask_fields, ask_sector}
 use Rattle.writer.specs.Entries.{ask_entries}
 use Rattle.writer.specs.Ring.{ask_write}
 use Rattle.layout.specs.declared.Geometry.{Geometry}
@@ -44,6 +44,13 @@ small_write bytes lens n journal start = search (rules, small_then, small_ask)
 -- of sectors and of superblocks
 pub small_length : (xs : List ℕ) → ask_length xs ≤ 13
 small_length xs = search (rules, small_ask)
+
+pub small_fields : (n : ℕ) (xs : List ℕ) → ask_fields n xs ≤ 13
+unfolding ask_fields
+small_fields n xs = search (rules, small_then, small_ask)
+
+pub small_sector : (xs : List ℕ) → ask_sector xs ≤ 13
+small_sector xs = small_fields _ xs
 
 pub small_numbers_in : (xs numbers : List ℕ) → ask_numbers_in xs numbers ≤ 13
 unfolding ask_fields

@@ -3,7 +3,8 @@
 //   Lent, LentMut                      the memory that is lent to it: to look at, and to alter
 //   Store::initial                     the machine at Init, and a disk without requests
 //   Store::ask, Store::ask_state       questions 1 and 2, of all that a call is handed; what was found in pending memory
-//   StoreStepped                       what a step answers: the disk operation that was done, beside the next store, or a refusal, beside the store as it was
+//   SteppedStore, StoreStepped         what a step answers: the disk operation that was done, beside the next store, or a no, a refusal, beside the store as it was
+//   Store::refused                     a no, for a caller that has asked itself, in the caller's own words
 //   the methods named `.._asked`       parts of steps, in the names and the order of 000's Step; no step by itself
 // A part is for a caller that has asked questions 1 and 2 itself, as crates steps (one call for each step) and calls (one call over an enum of
 // all) do. It asks the machine's other questions, then the disk's, and alters lent memory after the last yes. Every function is total.
