@@ -41,10 +41,9 @@ impl Handed {
     }
 
     // One more write in flight.
-    fn with(mut self, id: u64, v: JournalInterval) -> Handed {
+    fn add(&mut self, id: u64, v: JournalInterval) {
         self.held = self.held.add(id, v);
         self.awaited = self.awaited.add(id);
-        self
     }
 }
 
@@ -60,7 +59,7 @@ pub(crate) fn read(line: &[u8]) -> Option<Handed> {
         }
         let write = read_pair(line, w)?;
         at = write.to;
-        handed = handed.with(id, write.interval);
+        handed.add(id, write.interval);
     }
     if words::next_word(line, at).none() {
         return Some(handed);
