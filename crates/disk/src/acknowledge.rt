@@ -97,6 +97,7 @@ impl Disk {
         self.done(())
     }
 
+    #[inline(always)]
     pub fn ack_write_journal_asked(mut self, id: u64) -> DiskStepped
         ensures { result ≡ answered (ask_ack_write_journal self.journalWrites id) (ack_write_journal_next self id) self }
     {

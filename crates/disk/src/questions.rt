@@ -20,7 +20,9 @@ fn reads_ok(reads: SuperblockReads) -> bool
     a & b
 }
 
-// Question 2 of a table of intervals: as many as may be, ids that differ, and every interval valid and contiguous.
+// Question 2 of a table of intervals: as many as may be, ids that differ, and every interval valid and contiguous. In line, so that no table is
+// copied.
+#[inline(always)]
 fn intervals_ok(g: Geometry, most: usize, table: IntervalTable) -> bool
     ensures { result ≡ intervals_ok g most table }
 {
